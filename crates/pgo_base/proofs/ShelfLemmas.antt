@@ -1,7 +1,7 @@
 -- One more write, and one more failed call.
-use Rattle.std.proofs.Common.{◌≡◌, ◌≢◌, ℕ, Bool, true, false, List, [], ◌∷◌, ◌++◌, map, reverse, refl, sym, ap, ◌∙◌, nat_eq, Some, Option}
+use Rattle.std.proofs.Common.{◌≡◌, ℕ, Bool, true, false, List, [], ◌∷◌, ◌++◌, reverse, refl, sym, ap, ◌∙◌, Some}
 use Rattle.std.proofs.lemmas.Bool.{false_from_ne_true}
-use Rattle.std.specs.Cmp.Lexicographic.{pointwise, bytes_decides}
+use Rattle.std.specs.Cmp.Lexicographic.{bytes_decides}
 use Rattle.std.specs.List.{find}
 use Rattle.std.specs.Option.{option_map}
 use Rattle.std.specs.String.{string_bytes}
@@ -9,7 +9,7 @@ use Rattle.std.proofs.lemmas.List.{map-append, reverse-append}
 use Rattle.std.proofs.lemmas.List.Elements.{Contains-push}
 use Rattle.pgo_base.specs.declared.shelf.FileEntry.{FileEntry}
 use Rattle.pgo_base.specs.declared.shelf.FailedCall.{FailedCall}
-use Rattle.pgo_base.specs.Outside.{Files, Call, Gained, Puts}
+use Rattle.pgo_base.specs.Outside.{Call, Gained, Puts}
 use Rattle.pgo_base.specs.Shelf.{bytes_of, call_of, calls_of, files_of, has_name}
 
 -- one more failed call is gained

@@ -1,5 +1,5 @@
 // Stores in memory, for tests and for runs on texts at hand.
-ghost use Rattle.std.specs.Prelude.{◌≡◌, IfOk, IsErrOf, None, [], false, true, ⊤};
+ghost use Rattle.std.specs.Prelude.{◌≡◌, ◌⊎◌, ◌/◌, IfOk, IsErr, IsErrOf, IsTrue, None, Some, [], false, length, take, true, ⊤};
 ghost use Rattle.std.specs.Option.{option_map};
 ghost use Rattle.pgo_base.specs.Outside.{FailsBy, ReadGives, Tells, WriteLeaves};
 ghost use Rattle.pgo_base.specs.Shelf.{calls_of, files_of, given_file};
@@ -19,6 +19,8 @@ pub struct MemoryStore {
 }
 
 impl MemoryStore {
+    ghost use Rattle.pgo_base.specs.Fakes.{next_number, store_failing, store_fails, store_number};
+
     /// A store with these files; of two with one name the later counts. It answers `NoMemory` where there is no memory.
     pub fn new(
         alloc: Global,
@@ -27,6 +29,8 @@ impl MemoryStore {
     ) -> Result<MemoryStore, NoMemory>
         ensures files { IfOk result (λ store. (name : _) → ⟦<MemoryStore as Store>⟧.files store name ≡ given_file files.items name) }
         ensures failures { IfOk result (λ store. ⟦<MemoryStore as Store>⟧.failures store ≡ []) }
+        ensures failing { IfOk result (λ store. store_failing store ≡ failing.items) }
+        ensures number { IfOk result (λ store. store_number store ≡ 0) }
     {
         Ok(MemoryStore {
             shelf: Shelf::of(alloc, files)?,
@@ -44,7 +48,10 @@ impl MemoryStore {
 
     // Counts a call, and says whether it is to fail.
     fn is_failing(&mut self) -> bool
-        ensures { self.new.shelf ≡ self.old.shelf }
+        ensures fails { result ≡ store_fails self.old }
+        ensures number { store_number self.new ≡ next_number (store_number self.old) }
+        ensures failing { store_failing self.new ≡ store_failing self.old }
+        ensures shelf { self.new.shelf ≡ self.old.shelf }
     {
         let call = self.calls;
         self.calls = call.saturating_add(1);
@@ -53,13 +60,22 @@ impl MemoryStore {
 }
 
 impl Store for MemoryStore {
+    ghost use Rattle.pgo_base.specs.Fakes.{next_number, store_failing, store_fails, store_number};
+
     ghost tells = { λ _. ⊤ };
 
     ghost files = { λ store. files_of store.shelf.writes.items };
 
     ghost failures = { λ store. calls_of store.shelf.failed.items };
 
-    fn read_file(&mut self, alloc: Global, name: &str) -> Result<Vec<u8>, OutsideError> {
+    fn read_file(&mut self, alloc: Global, name: &str) -> Result<Vec<u8>, OutsideError>
+        ensures gives { Tells ⊤ ⊤ (ReadGives (λ v. v.items) READ_MOST name.now (files_of self.old.shelf.writes.items) (files_of self.new.shelf.writes.items) result) }
+        ensures fails { FailsBy (calls_of self.old.shelf.failed.items) (calls_of self.new.shelf.failed.items) (name.now, false) result }
+        ensures listed { IsTrue (store_fails self.old) → IsErr result }
+        ensures cause { IsErrOf result OutsideError.Failed → IsTrue (store_fails self.old) ⊎ (files_of self.old.shelf.writes.items name.now ≡ None) }
+        ensures number { store_number self.new ≡ next_number (store_number self.old) }
+        ensures failing { store_failing self.new ≡ store_failing self.old }
+    {
         if self.is_failing() {
             self.shelf.fail(name, false)?;
             return Err(OutsideError::Failed);
@@ -67,7 +83,15 @@ impl Store for MemoryStore {
         self.shelf.read(alloc, name)
     }
 
-    fn write_file(&mut self, name: &str, bytes: &[u8]) -> Result<(), OutsideError> {
+    fn write_file(&mut self, name: &str, bytes: &[u8]) -> Result<(), OutsideError>
+        ensures leaves { Tells ⊤ ⊤ (WriteLeaves name.now bytes.now (files_of self.old.shelf.writes.items) (files_of self.new.shelf.writes.items) result) }
+        ensures fails { FailsBy (calls_of self.old.shelf.failed.items) (calls_of self.new.shelf.failed.items) (name.now, true) result }
+        ensures listed { IsTrue (store_fails self.old) → IsErr result }
+        ensures cause { IsErrOf result OutsideError.Failed → IsTrue (store_fails self.old) }
+        ensures half { IsErrOf result OutsideError.Failed → files_of self.new.shelf.writes.items name.now ≡ Some (take (length bytes.now / 2) bytes.now) }
+        ensures number { store_number self.new ≡ next_number (store_number self.old) }
+        ensures failing { store_failing self.new ≡ store_failing self.old }
+    {
         if self.is_failing() {
             self.shelf.fail_write(name, bytes)?;
             return Err(OutsideError::Failed);

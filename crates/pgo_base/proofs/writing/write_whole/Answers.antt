@@ -1,5 +1,5 @@
 -- A part is appended to the front that is done.
-use Rattle.std.proofs.Common.{◌≤◌, arith, length-drop}
+use Rattle.std.proofs.Common.{arith, length-drop}
 use Rattle.std.proofs.lemmas.List.{take_rest}
 use Rattle.pgo_base.proofs.WriteLemmas.{more_appended}
 use Rattle.pgo_base.proofs.writing.write_whole.Goals as goal

@@ -1,5 +1,5 @@
 -- The call is gained where its write was put.
-use Rattle.std.proofs.Common.{◌≡◌, [], ◌∷◌, ◌++◌, ap, ◌∙◌}
+use Rattle.std.proofs.Common.{◌≡◌, [], ◌∷◌, ◌++◌, ap}
 use Rattle.pgo_base.proofs.ShelfLemmas.{gained_push}
 use Rattle.pgo_base.proofs.shelf.Shelf.fail_write.Goals as goal
 
