@@ -1,0 +1,70 @@
+// Delivering what a command made: first the output, then the files in order.
+ghost use Rattle.std.specs.Prelude.{◌≡◌, None, length};
+ghost use Rattle.pgo_shell.specs.Product.{bytes_of_all, made_of};
+ghost use Rattle.pgo_shell.specs.Shell.{Delivered};
+ghost use Rattle.pgo_shell.specs.Steps.{DeliveryCauses, FilesLeft, OutputLeft, OutputRises, StopsWriting};
+
+use crate::{Command, Product, Stop};
+use pgo_base::{OutsideError, Sink, Store};
+
+/// Puts the output and writes the files, or stops at the halt of the product, behind its output.
+pub fn deliver<C: Command, S: Store, O: Sink>(
+    command: &C,
+    store: &mut S,
+    out: &mut O,
+    product: Product,
+) -> Result<(), Stop>
+    requires { product.halted ≡ None → length product.files.items ≡ length (C.writes command.now) }
+    ensures store_tells { S.tells store.old → S.tells store.new }
+    ensures out_tells { O.tells out.old → O.tells out.new }
+    ensures stands { S.tells store.old → O.tells out.old → Delivered (made_of product) (C.writes command.now)
+        (record { files = S.files store.old; put = O.bytes out.old }) (record { files = S.files store.new; put = O.bytes out.new }) result }
+    ensures causes { DeliveryCauses (C.writes command.now)
+        (record { failures = S.failures store.old; count = O.faults out.old }) (record { failures = S.failures store.new; count = O.faults out.new }) result }
+{
+    let Product {
+        halted,
+        output,
+        files,
+    } = product;
+    put_output(out, &output)?;
+    match halted {
+        Some(line) => Err(Stop::Halted { line }),
+        None => write_files(command, store, &files),
+    }
+}
+
+// Puts the whole output at once.
+fn put_output<O: Sink>(out: &mut O, bytes: &[u8]) -> Result<(), Stop>
+    ensures tells { O.tells out.old → O.tells out.new }
+    ensures left { O.tells out.old → OutputLeft bytes.now (O.bytes out.old) (O.bytes out.new) result }
+    ensures rises { OutputRises (O.faults out.old) (O.faults out.new) result }
+{
+    match out.put(bytes) {
+        Ok(()) => Ok(()),
+        Err(OutsideError::Failed) => Err(Stop::Output),
+        Err(OutsideError::NoMemory) => Err(Stop::NoMemory),
+    }
+}
+
+// Writes the files in order.
+fn write_files<C: Command, S: Store>(
+    command: &C,
+    store: &mut S,
+    files: &[Vec<u8>],
+) -> Result<(), Stop>
+    requires { length files.now ≡ length (C.writes command.now) }
+    ensures tells { S.tells store.old → S.tells store.new }
+    ensures left { S.tells store.old → FilesLeft (C.writes command.now) (bytes_of_all files.now) (S.files store.old) (S.files store.new) result }
+    ensures stops { StopsWriting (C.writes command.now) (S.failures store.old) (S.failures store.new) result }
+{
+    let mut index = 0;
+    'files: while let Some(name) = command.write_name(index) {
+        match store.write_file(name, &files[index]) {
+            Ok(()) => index += 1,
+            Err(OutsideError::Failed) => return Err(Stop::Write { index }),
+            Err(OutsideError::NoMemory) => return Err(Stop::NoMemory),
+        }
+    }
+    Ok(())
+}
