@@ -1,5 +1,5 @@
 -- The integer operators of the LLVM Language Reference, as functions on whole numbers, for every width w.
-use Rattle.std.specs.Prelude.{ℕ, ◌+◌, ◌-◌, ◌*◌, ◌/◌, ◌%◌, ◌^◌, Bool, ◌&&◌, not, ℤ, pos, ◌+ℤ◌, ◌-ℤ◌, ◌*ℤ◌, int_div, int_rem, int_lt, int_le, ◌==◌, nat_lt, nat_le, Result, Ok, Err, bit_and, bit_or, bit_xor, if◌then◌else◌}
+use Rattle.std.specs.Prelude.{ℕ, ◌+◌, ◌-◌, ◌*◌, ◌/◌, ◌%◌, ◌^◌, Bool, true, false, ◌&&◌, not, ℤ, pos, ◌+ℤ◌, ◌-ℤ◌, ◌*ℤ◌, int_div, int_rem, int_lt, int_le, ◌==◌, nat_lt, nat_le, Result, Ok, Err, bit_and, bit_or, bit_xor, if◌then◌else◌}
 use Rattle.std.specs.Int.{int_shr}
 use Rattle.ir_value.specs.Integer.{wrapped, signed_of, least_signed, minus_one}
 use Rattle.ir_value.specs.declared.operators.ValueOp.{ValueOp}
@@ -8,6 +8,19 @@ use Rattle.ir_value.specs.declared.operators.ValuePred.{ValuePred}
 use Rattle.ir_value.specs.declared.operators.ValuePred.TheVariants.{Eq, Ne, Ugt, Uge, Ult, Ule, Sgt, Sge, Slt, Sle}
 use Rattle.ir_value.specs.declared.operators.DivTrap.{DivTrap}
 use Rattle.ir_value.specs.declared.operators.DivTrap.TheVariants.{DivZero, DivOverflow}
+
+-- the operators that divide, and those of them that divide signed numbers
+abbrev pub divides : ValueOp → Bool
+divides UDiv = true
+divides SDiv = true
+divides URem = true
+divides SRem = true
+divides _ = false
+
+abbrev pub divides_signed : ValueOp → Bool
+divides_signed SDiv = true
+divides_signed SRem = true
+divides_signed _ = false
 
 -- the quotient of the least signed number by -1 is no signed number of w bits
 abbrev pub overflows : ℕ → ℕ → ℕ → Bool

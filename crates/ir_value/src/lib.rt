@@ -9,3 +9,6 @@ mod words;
 
 pub use convert::{extend, truncate};
 pub use operators::{DivTrap, ValueOp, ValuePred, binary, compare};
+
+#[cfg(test)]
+mod tests;

@@ -1,6 +1,6 @@
 //! The operators and the comparisons, by their names in the language.
-ghost use Rattle.std.specs.Prelude.{◌≡◌, ◌^◌, ◌<◌, IfOk};
-ghost use Rattle.ir_value.specs.Integer.{IsWidth};
+ghost use Rattle.std.specs.Prelude.{◌≡◌, ◌^◌, ◌<◌, ◌↔◌, IfOk, IsTrue};
+ghost use Rattle.ir_value.specs.Integer.{IsWidth, least_signed, minus_one};
 
 use crate::divide::{divide, divide_signed, remainder, remainder_signed};
 use crate::shift::{shift_left, shift_right, shift_right_signed};
@@ -48,7 +48,7 @@ pub enum DivTrap {
     DivOverflow,
 }
 
-ghost use Rattle.ir_value.specs.Operators.{binary_of, compare_of};
+ghost use Rattle.ir_value.specs.Operators.{binary_of, compare_of, divides, divides_signed};
 
 /// What `op` gives for two integers of `width` bits. A shift by the width or more gives 0.
 /// It traps where `op` divides by 0, or a signed division or remainder overflows.
@@ -58,6 +58,9 @@ pub fn binary(op: ValueOp, width: u32, left: u64, right: u64) -> Result<u64, Div
     requires right { right < 2 ^ width }
     ensures value { result ≡ binary_of op width left right }
     ensures fits { IfOk result (λ n. n < 2 ^ width) }
+    ensures div_zero { (result ≡ Err DivTrap.DivZero) ↔ (IsTrue (divides op) × (right ≡ 0)) }
+    ensures div_overflow { (result ≡ Err DivTrap.DivOverflow)
+        ↔ (IsTrue (divides_signed op) × (left ≡ least_signed width) × (right ≡ minus_one width)) }
 {
     match op {
         ValueOp::Add => Ok(low_bits(width, left.wrapping_add(right))),
