@@ -1,15 +1,13 @@
 -- Integers of w bits in a word of 64, for every w.
-use Rattle.std.proofs.Common.{◌≡◌, ℕ, suc, ◌+◌, ◌-◌, ◌*◌, ◌/◌, ◌%◌, ◌^◌, ◌<◌, ◌≤◌, ltb, true, false, cond, refl, sym, ap, ◌∙◌, subst, arith, ℤ, pos, negsuc, ◌-ℤ◌, w64, FitsSigned, to_z, of_z, bit_and, inl, inr}
-use Rattle.std.specs.Prelude.{bit_or, bit_xor, if◌then◌else◌, nat_lt}
-use Rattle.std.specs.Int.{int_shr}
+use Rattle.std.proofs.Common.{◌≡◌, ℕ, suc, ◌+◌, ◌-◌, ◌*◌, ◌/◌, ◌%◌, ◌^◌, ◌<◌, ◌≤◌, refl, sym, ap, ◌∙◌, subst, arith, ℤ, pos, negsuc, ◌-ℤ◌, w64, FitsSigned, to_z, of_z, inl, inr}
 use lib.Signed.{shr_z}
-use Rattle.std.proofs.lemmas.Nat.{pow_pos, pow-add, pow_below, mod_low, shr_high, shl_whole, shl-shr, shr_split, or_lt, xor_lt, mod_below, div_below, and_mask}
+use Rattle.std.proofs.lemmas.Nat.{pow_pos, pow-add, pow_below, mod_low, shr_high, shl_whole, shl-shr, shr_split, mod_below, div_below}
 use Rattle.std.proofs.lemmas.Nat.Bits.{ones_shr}
 use Rattle.std.proofs.lemmas.Int.{ints, to_z_pos, to_z-of_z, of_z-to_z}
 use Rattle.std.proofs.lemmas.Bool.{cases_lt, cond_below, cond_above}
 use Rattle.std.proofs.Math.Pow.{mod-mod-pow}
 use Rattle.std.proofs.Math.Nat.{mul-lt-mul_of_pos_right, mul-le-mul_right, add-mul-mod_self_right, mod-eq_of_lt}
-use Rattle.ir_value.specs.Integer.{wrapped, signed_of, truncated}
+use Rattle.ir_value.specs.Integer.{wrapped, signed_of}
 
 -- a power of two is the product of two whose exponents add up to its own
 power_split : (a b n : ℕ) → a + b ≡ n → 2 ^ n ≡ 2 ^ a * 2 ^ b
@@ -44,9 +42,9 @@ half w h = let e : 2 ^ w ≡ 2 ^ (w - 1) * 2 ^ 1 = power_split (w - 1) 1 w (omeg
 -- a power of two at a width up to another's
 pub power_up : (v w : ℕ) → v ≤ w → 2 ^ v ≤ 2 ^ w
 power_up v w h = elim (cases_lt v w) [
-    inl p ↦ let q = pow_below v w p in omega arith
+  | inl p ↦ let q = pow_below v w p in omega arith
   | inr p ↦ let e : v ≡ w = omega arith in rw e (omega arith)
-  ]
+]
 
 in_word : (w : ℕ) → w ≤ 64 → 2 ^ w ≤ 2 ^ 64
 in_word w h = power_up w 64 h
@@ -60,9 +58,9 @@ signed_fits w n h k b =
     let m = half_in_word w h k in
     let e = half w h in
     elim (cases_lt n (2 ^ (w - 1))) [
-    inl p ↦ subst P (sym (signed_low w n p)) (record { sfits = omega arith })
-  | inr p ↦ subst P (sym (signed_high w n p b)) (record { sfits = omega arith })
-  ]
+      | inl p ↦ subst P (sym (signed_low w n p)) (record { sfits = omega arith })
+      | inr p ↦ subst P (sym (signed_high w n p b)) (record { sfits = omega arith })
+    ]
 
 shr_pos : (a m : ℕ) (z : ℤ) → z ≡ pos a → shr_z z m ≡ pos (a / m)
 shr_pos a m z e = ap (λ y. shr_z y m) e
@@ -82,7 +80,7 @@ gap n d k p r t e f g = rw (e, f, g) (gap_of n d k)
 
 -- the word whose highest bits are those of n, shifted back with copies of the highest
 pub shift_back : (w n : ℕ) → 0 < w → w ≤ 64 → n < 2 ^ w → (z : ℤ) → z ≡ to_z w64 (n * 2 ^ (64 - w) % 2 ^ 64)
-  → shr_z z (2 ^ (64 - w)) ≡ signed_of w n
+    → shr_z z (2 ^ (64 - w)) ≡ signed_of w n
 shift_back w n h k b z e =
     let m : 2 ^ 64 ≡ 2 ^ (64 - w) * 2 ^ w = power_split (64 - w) w 64 (omega arith) in
     let g : 2 ^ 63 ≡ 2 ^ (w - 1) * 2 ^ (64 - w) = power_split (w - 1) (64 - w) 63 (omega arith) in
@@ -90,22 +88,22 @@ shift_back w n h k b z e =
     let i : z ≡ to_z w64 (n * 2 ^ (64 - w)) = e ∙ ap (to_z w64) whole in
     let r : 0 < 2 ^ (64 - w) = pow_pos (64 - w) in
     elim (cases_lt n (2 ^ (w - 1))) [
-    inl p ↦
-      let f : n * 2 ^ (64 - w) < 2 ^ (w - 1) * 2 ^ (64 - w) = mul-lt-mul_of_pos_right p r in
-      let q : n * 2 ^ (64 - w) < 2 ^ 63 = omega arith in
-      shr_pos (n * 2 ^ (64 - w)) (2 ^ (64 - w)) z (i ∙ to_z_pos w64 (n * 2 ^ (64 - w)) q) ∙ ap pos (shl-shr n (64 - w)) ∙ sym (signed_low w n p)
-  | inr p ↦
-      let f : 2 ^ (w - 1) * 2 ^ (64 - w) ≤ n * 2 ^ (64 - w) = mul-le-mul_right (2 ^ (64 - w)) p in
-      let q : 2 ^ 63 ≤ n * 2 ^ (64 - w) = omega arith in
-      let low : 2 ^ (64 - w) - 1 < 2 ^ (64 - w) = omega arith in
-      let s = gap n (2 ^ w - suc n) (2 ^ (64 - w) - 1) (2 ^ w) (2 ^ (64 - w)) (2 ^ 64) m (omega arith) (omega arith) in
-      shr_neg (2 ^ 64 - suc (n * 2 ^ (64 - w))) (2 ^ (64 - w)) z (i ∙ to_z_neg (n * 2 ^ (64 - w)) q) ∙ ap (λ a. negsuc (a / 2 ^ (64 - w))) s
-      ∙ ap negsuc (shr_high (2 ^ w - suc n) (64 - w) (2 ^ (64 - w) - 1) low) ∙ sym (signed_high w n p b)
-  ]
+      | inl p ↦
+          let f : n * 2 ^ (64 - w) < 2 ^ (w - 1) * 2 ^ (64 - w) = mul-lt-mul_of_pos_right p r in
+          let q : n * 2 ^ (64 - w) < 2 ^ 63 = omega arith in
+          shr_pos (n * 2 ^ (64 - w)) (2 ^ (64 - w)) z (i ∙ to_z_pos w64 (n * 2 ^ (64 - w)) q) ∙ ap pos (shl-shr n (64 - w)) ∙ sym (signed_low w n p)
+      | inr p ↦
+          let f : 2 ^ (w - 1) * 2 ^ (64 - w) ≤ n * 2 ^ (64 - w) = mul-le-mul_right (2 ^ (64 - w)) p in
+          let q : 2 ^ 63 ≤ n * 2 ^ (64 - w) = omega arith in
+          let low : 2 ^ (64 - w) - 1 < 2 ^ (64 - w) = omega arith in
+          let s = gap n (2 ^ w - suc n) (2 ^ (64 - w) - 1) (2 ^ w) (2 ^ (64 - w)) (2 ^ 64) m (omega arith) (omega arith) in
+          shr_neg (2 ^ 64 - suc (n * 2 ^ (64 - w))) (2 ^ (64 - w)) z (i ∙ to_z_neg (n * 2 ^ (64 - w)) q) ∙ ap (λ a. negsuc (a / 2 ^ (64 - w))) s
+          ∙ ap negsuc (shr_high (2 ^ w - suc n) (64 - w) (2 ^ (64 - w) - 1) low) ∙ sym (signed_high w n p b)
+    ]
 
 -- what a shift with copies of the sign leaves
 pub signed_word : (w n : ℕ) → 0 < w → w ≤ 64 → n < 2 ^ w → (z : ℤ) → z ≡ to_z w64 (n * 2 ^ (64 - w) % 2 ^ 64)
-  → to_z w64 (of_z w64 (shr_z (to_z w64 (of_z w64 z)) (2 ^ (64 - w)))) ≡ signed_of w n
+    → to_z w64 (of_z w64 (shr_z (to_z w64 (of_z w64 z)) (2 ^ (64 - w)))) ≡ signed_of w n
 signed_word w n h k b z e =
     let y : ℤ = to_z w64 (of_z w64 z) in
     let m : n * 2 ^ (64 - w) % 2 ^ 64 < 2 ^ 64 = mod_below (n * 2 ^ (64 - w)) (2 ^ 64) (pow_pos 64) in
@@ -138,7 +136,7 @@ wrapped_word w (negsuc n) h f = let g = f.sfits in wrapped_rest 64 w n h (omega 
 -- a difference of words is a difference modulo 2 ^ w
 difference_of : (w l r : ℕ) → w ≤ 64 → l < 2 ^ 64 → r < 2 ^ 64 → (l + (2 ^ 64 - r)) % 2 ^ 64 % 2 ^ w ≡ wrapped w (pos l -ℤ pos r)
 difference_of w l r h f g = elim (cases_lt l r) [
-    inl p ↦
+  | inl p ↦
       let e : l + (2 ^ 64 - r) ≡ 2 ^ 64 - suc (r - suc l) = omega arith in
       low_of_word (l + (2 ^ 64 - r)) w h ∙ ap (λ x. x % 2 ^ w) e ∙ wrapped_rest 64 w (r - suc l) h (omega arith)
       ∙ ap (wrapped w) (sym (below_zero l r p))
@@ -147,7 +145,7 @@ difference_of w l r h f g = elim (cases_lt l r) [
       let d : pos (l - r) ≡ pos l -ℤ pos r = omega (arith, ints) in
       ap (λ x. x % 2 ^ 64 % 2 ^ w) e ∙ ap (λ x. x % 2 ^ w) (add-mul-mod_self_right (l - r) 1 (2 ^ 64))
       ∙ low_of_word (l - r) w h ∙ ap (wrapped w) d
-  ]
+]
 
 pub difference_word : (w l r n : ℕ) → w ≤ 64 → l < 2 ^ w → r < 2 ^ w → n ≡ (l + (2 ^ 64 - r)) % 2 ^ 64 % 2 ^ w → n ≡ wrapped w (pos l -ℤ pos r)
 difference_word w l r n h f g e = let m = in_word w h in e ∙ difference_of w l r h (omega arith) (omega arith)
@@ -163,8 +161,8 @@ narrowed t w (negsuc n) h =
 -- an integer is congruent to its signed reading
 pub signed_back : (w n : ℕ) → n < 2 ^ w → wrapped w (signed_of w n) ≡ n
 signed_back w n b = elim (cases_lt n (2 ^ (w - 1))) [
-    inl p ↦ ap (wrapped w) (signed_low w n p) ∙ mod-eq_of_lt b
+  | inl p ↦ ap (wrapped w) (signed_low w n p) ∙ mod-eq_of_lt b
   | inr p ↦
       let m : (2 ^ w - suc n) % 2 ^ w ≡ 2 ^ w - suc n = mod-eq_of_lt (omega arith) in
       ap (wrapped w) (signed_high w n p b) ∙ omega arith
-  ]
+]

@@ -1,8 +1,8 @@
 -- The definitions at work, in numbers that a reader can check by hand.
-use Rattle.std.specs.Prelude.{◌≡◌, ℤ, pos, negsuc, Result, Ok, Err, Bool, true, false, refl}
+use Rattle.std.specs.Prelude.{◌≡◌, pos, negsuc, Ok, Err, true, false, refl}
 use Rattle.ir_value.specs.Integer.{signed_of, wrapped, truncated, least_signed, minus_one}
 use Rattle.ir_value.specs.Operators.{binary_of, compare_of, extended}
-use Rattle.ir_value.specs.declared.operators.ValueOp.TheVariants.{Sub, UDiv, SDiv, SRem, Shl, LShr, AShr}
+use Rattle.ir_value.specs.declared.operators.ValueOp.TheVariants.{Sub, UDiv, SDiv, SRem, Shl, AShr}
 use Rattle.ir_value.specs.declared.operators.ValuePred.TheVariants.{Ult, Slt}
 use Rattle.ir_value.specs.declared.operators.DivTrap.TheVariants.{DivZero, DivOverflow}
 

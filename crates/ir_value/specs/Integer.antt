@@ -1,6 +1,6 @@
 -- An integer of w bits is a whole number below 2 ^ w. Read as signed, it is the number from -2 ^ (w - 1) up to
 -- 2 ^ (w - 1) that is congruent to it modulo 2 ^ w.
-use Rattle.std.specs.Prelude.{◌≡◌, ℕ, ◌+◌, ◌-◌, ◌%◌, ◌^◌, ◌<◌, ◌≤◌, ℤ, pos, ◌-ℤ◌, nat_lt, unsigned_abs, if◌then◌else◌}
+use Rattle.std.specs.Prelude.{ℕ, ◌-◌, ◌%◌, ◌^◌, ◌<◌, ◌≤◌, ℤ, pos, ◌-ℤ◌, nat_lt, unsigned_abs, if◌then◌else◌}
 use Rattle.std.specs.Int.{int_rem_euclid}
 
 -- The widths that fit a machine word; those of the language are 1, 8, 16, 32 and 64

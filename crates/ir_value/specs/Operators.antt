@@ -1,5 +1,5 @@
 -- The integer operators of the LLVM Language Reference, as functions on whole numbers, for every width w.
-use Rattle.std.specs.Prelude.{ℕ, ◌+◌, ◌-◌, ◌*◌, ◌/◌, ◌%◌, ◌^◌, Bool, true, false, ◌&&◌, not, ℤ, pos, ◌+ℤ◌, ◌-ℤ◌, ◌*ℤ◌, int_div, int_rem, int_lt, int_le, ◌==◌, nat_lt, nat_le, Result, Ok, Err, bit_and, bit_or, bit_xor, if◌then◌else◌}
+use Rattle.std.specs.Prelude.{ℕ, ◌*◌, ◌/◌, ◌%◌, ◌^◌, Bool, true, false, ◌&&◌, not, ℤ, pos, ◌+ℤ◌, ◌-ℤ◌, ◌*ℤ◌, int_div, int_rem, int_lt, int_le, ◌==◌, nat_lt, nat_le, Result, Ok, Err, bit_and, bit_or, bit_xor, if◌then◌else◌}
 use Rattle.std.specs.Int.{int_shr}
 use Rattle.ir_value.specs.Integer.{wrapped, signed_of, least_signed, minus_one}
 use Rattle.ir_value.specs.declared.operators.ValueOp.{ValueOp}

@@ -2,7 +2,6 @@
 use crate::operators::{DivTrap, ValueOp, ValuePred, binary, compare};
 use crate::words::mask;
 use crate::{extend, truncate};
-
 use std::test::Fail;
 
 /// `binary`, where its conditions hold.
@@ -30,6 +29,7 @@ fn verdict(pred: ValuePred, width: u32, left: u64, right: u64) -> Option<bool> {
 }
 
 const LEAST: u64 = 0x8000_0000_0000_0000;
+
 const MOST: u64 = 0xffff_ffff_ffff_ffff;
 
 #[test]
@@ -121,7 +121,11 @@ fn hand_computed_comparisons_and_conversions(rt: HostRuntime) -> Result<(), Fail
 
 /// An integer as a signed number: from one half of `whole`, which is 2 to its width, on it is below 0.
 fn reading(whole: i64, value: i64) -> i64 {
-    if value < whole / 2 { value } else { value.wrapping_sub(whole) }
+    if value < whole / 2 {
+        value
+    } else {
+        value.wrapping_sub(whole)
+    }
 }
 
 /// What `op` gives by arithmetic on the numbers themselves, brought back below `whole`; nothing where it traps.
@@ -171,7 +175,13 @@ fn agrees(width: u32, whole: u32) -> bool {
         for left in 0..whole {
             for right in 0..whole {
                 let (l, r) = (u64::from(left), u64::from(right));
-                let wanted = plain(op, i64::from(width), i64::from(whole), i64::from(left), i64::from(right));
+                let wanted = plain(
+                    op,
+                    i64::from(width),
+                    i64::from(whole),
+                    i64::from(left),
+                    i64::from(right),
+                );
                 let found = match answer(op, width, l, r) {
                     Some(Ok(value)) => Some(value.cast_signed()),
                     _ => None,

@@ -1,7 +1,5 @@
-use Rattle.std.proofs.Common.{◌≡◌, ◌*◌, ap, sym, ◌∙◌, Result, Ok, ℕ, pos, ◌-ℤ◌}
+use Rattle.std.proofs.Common.{◌*◌, ap, ◌∙◌, Result, Ok, ℕ}
 use Rattle.std.proofs.lemmas.Nat.{or_lt, xor_lt}
-use Rattle.ir_value.specs.Integer.{wrapped}
-use Rattle.ir_value.specs.Operators.{binary_of}
 use Rattle.ir_value.specs.declared.operators.DivTrap.{DivTrap}
 use Rattle.ir_value.proofs.WordLemmas.{low_of_word, difference_word}
 use Rattle.ir_value.proofs.operators.binary.Goals as goal

@@ -1,4 +1,4 @@
-use Rattle.std.proofs.Common.{◌≡◌, ◌*◌, ◌%◌, ◌^◌, ◌<◌, ◌∙◌, arith}
+use Rattle.std.proofs.Common.{◌*◌, ◌%◌, ◌^◌, ◌<◌, ◌∙◌, arith}
 use Rattle.std.proofs.lemmas.Bool.{cond_below}
 use Rattle.ir_value.proofs.WordLemmas.{low_of_word}
 use Rattle.ir_value.proofs.shift.shift_left.Goals as goal

@@ -1,4 +1,4 @@
-use Rattle.std.proofs.Common.{sym, ◌∙◌, ap, bit_and}
+use Rattle.std.proofs.Common.{◌∙◌, ap, bit_and}
 use Rattle.std.proofs.lemmas.Nat.{and_mask}
 use Rattle.ir_value.proofs.words.low_bits.Goals as goal
 
