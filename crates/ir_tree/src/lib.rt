@@ -2,6 +2,7 @@
 #![tactic(auto)]
 
 mod compared;
+mod copies;
 mod few;
 mod name;
 mod seq;

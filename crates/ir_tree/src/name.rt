@@ -1,6 +1,8 @@
 // Names of globals, functions, parameters, blocks and results.
-ghost use Rattle.std.specs.Prelude.{◌≡◌, []};
+ghost use Rattle.std.specs.Prelude.{◌≡◌, [], IfOk};
 
+use pgo_base::NoMemory;
+use std::alloc::Global;
 use std::marker::Model;
 
 /// The name of a global, function, parameter, block or result, without its `@` or `%` and
@@ -33,6 +35,21 @@ impl Default for Name {
 }
 
 impl Name {
+    /// The name with these bytes.
+    pub fn of(alloc: Global, bytes: &[u8]) -> Result<Name, NoMemory>
+        ensures { IfOk result (λ n. n ≡ bytes.now) }
+    {
+        let bytes = Vec::from_slice(alloc, bytes)?;
+        Ok(Name { bytes: Some(bytes) })
+    }
+
+    /// An equal name.
+    pub fn copy(&self, alloc: Global) -> Result<Name, NoMemory>
+        ensures { IfOk result (λ n. n ≡ self.now) }
+    {
+        Name::of(alloc, self.bytes())
+    }
+
     /// The bytes of the name.
     pub fn bytes(&self) -> &[u8]
         ensures { result.now ≡ self.now }
