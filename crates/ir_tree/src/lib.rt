@@ -4,11 +4,13 @@
 mod compared;
 mod copies;
 mod few;
+mod index;
 mod name;
 mod seq;
 mod types;
 
 pub use few::Few;
+pub use index::Index;
 pub use name::Name;
 pub use seq::Seq;
 pub use types::{
