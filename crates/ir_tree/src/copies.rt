@@ -57,7 +57,10 @@ impl Init {
             Init::Null => Ok(Init::Null),
             Init::Symbol(name) => Ok(Init::Symbol(name.copy(alloc)?)),
             Init::Zero => Ok(Init::Zero),
-            Init::Bytes(bytes) => Ok(Init::Bytes(Seq::of(Vec::from_slice(alloc, bytes.as_slice())?))),
+            Init::Bytes(bytes) => Ok(Init::Bytes(Seq::of(Vec::from_slice(
+                alloc,
+                bytes.as_slice(),
+            )?))),
             Init::List(inits) => {
                 let items = inits.as_slice();
                 let mut copies = Vec::with_capacity(alloc, items.len())?;
@@ -367,12 +370,7 @@ fn copy_load(alloc: Global, dest: &Name, ty: Ty, address: &Operand) -> Result<In
     })
 }
 
-fn copy_store(
-    alloc: Global,
-    ty: Ty,
-    value: &Operand,
-    address: &Operand,
-) -> Result<Instr, NoMemory>
+fn copy_store(alloc: Global, ty: Ty, value: &Operand, address: &Operand) -> Result<Instr, NoMemory>
     ensures { IfOk result (λ i. i ≡ Store ty value.now address.now) }
 {
     Ok(Instr::Store {
@@ -516,10 +514,7 @@ fn copy_entries(
     Ok(Few::of(copies))
 }
 
-fn copy_typed(
-    alloc: Global,
-    operands: &Few<(Ty, Operand)>,
-) -> Result<Few<(Ty, Operand)>, NoMemory>
+fn copy_typed(alloc: Global, operands: &Few<(Ty, Operand)>) -> Result<Few<(Ty, Operand)>, NoMemory>
     ensures { IfOk result (λ o. o ≡ operands.now) }
 {
     let items = operands.as_slice();

@@ -17,3 +17,6 @@ pub use types::{
     BinOp, Block, ConvOp, Flags, Function, Global1, Init, Instr, MemTy, Module, Operand, Pred,
     Prof, Ret, Term, Ty,
 };
+
+#[cfg(test)]
+mod tests;

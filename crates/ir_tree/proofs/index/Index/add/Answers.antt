@@ -1,5 +1,5 @@
-use Rattle.std.proofs.Common.{◌≡◌, is_some, position, true, false, sym, ap, not, ◌∙◌}
-use Rattle.ir_tree.specs.Names.{same, first_place, Indexes}
+use Rattle.std.proofs.Common.{◌≡◌, is_some, position, true, false, sym, ap, ◌∙◌}
+use Rattle.ir_tree.specs.Names.{same, first_place}
 use Rattle.ir_tree.proofs.Places.{position-again, index_grows}
 use Rattle.ir_tree.proofs.index.Index.add.Goals as goal
 
