@@ -1,0 +1,2 @@
+//! Tokens of LLVM assembly, borrowed from the text.
+#![tactic(auto)]
