@@ -1,2 +1,14 @@
-//! Tokens of LLVM assembly, borrowed from the text.
+//! The tokens of LLVM assembly, as slices of its text.
+//!
+//! [`Tokens`] goes over a text from its start. The longest token is taken, as in LLVM's own lexer; spaces, tabs, line
+//! ends and comments part tokens. Nothing is copied, and no call takes memory.
 #![tactic(auto)]
+
+mod bytes;
+mod longest;
+mod scan;
+mod token;
+mod tokens;
+
+pub use token::{Syntax, Token, TokenKind};
+pub use tokens::Tokens;

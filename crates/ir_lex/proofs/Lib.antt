@@ -1,0 +1,5 @@
+pub mod Fronts
+pub mod KindFronts
+pub mod NextSteps
+pub mod Ranks
+pub mod Unlabelled
