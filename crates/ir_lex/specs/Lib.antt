@@ -4,3 +4,4 @@ pub mod Tokens
 pub mod Scan
 pub mod Best
 pub mod Next
+pub mod Meaning

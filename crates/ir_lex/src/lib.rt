@@ -5,10 +5,15 @@
 #![tactic(auto)]
 
 mod bytes;
+mod law;
 mod longest;
 mod scan;
 mod token;
 mod tokens;
 
+pub use law::tokens_are_unique;
 pub use token::{Syntax, Token, TokenKind};
 pub use tokens::Tokens;
+
+#[cfg(test)]
+mod tests;
