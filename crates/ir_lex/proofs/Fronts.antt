@@ -1,11 +1,11 @@
-use Rattle.std.proofs.Common.{◌≡◌, ℕ, zero, suc, ◌+◌, ◌-◌, ◌<◌, ◌≤◌, Bool, true, false, ◌&&◌, ◌||◌, cond, eqb, ltb, List, [], ◌∷◌, length, take, drop, Option, None, Some, refl, sym, ap, ◌∙◌, subst, arith, length-drop}
+use Rattle.std.proofs.Common.{◌≡◌, ℕ, zero, suc, ◌+◌, ◌-◌, ◌<◌, ◌≤◌, Bool, true, false, ◌&&◌, ◌||◌, cond, eqb, ltb, List, [], ◌∷◌, length, take, drop, Option, None, Some, refl, ap, ◌∙◌, subst, arith, length-drop}
 use Rattle.std.specs.List.{prefix_len}
 use Rattle.std.specs.Option.{option_and_then}
 use Rattle.std.specs.Char.{is_ascii_hexdigit}
 use Rattle.std.proofs.Math.Numerals.{one-add}
 use Rattle.ir_lex.specs.Classes.{is_string_byte}
-use Rattle.ir_lex.specs.Spelling.{ends, one, byte, many, either, is_byte_content, spells}
-use Rattle.ir_lex.specs.Scan.{first_of, one_rest, byte_rest, skip, many_rest, shorter, either_rest, content_rest, taken}
+use Rattle.ir_lex.specs.Spelling.{ends, one, many, either, is_byte_content}
+use Rattle.ir_lex.specs.Scan.{one_rest, many_rest, shorter, either_rest, content_rest, taken}
 
 -- no front longer than n passes
 abbrev pub NonePast : (List ℕ → Bool) → List ℕ → ℕ → Type 0

@@ -1,10 +1,10 @@
-use Rattle.std.proofs.Common.{◌≡◌, ℕ, zero, suc, eqb, ◌+◌, ◌-◌, ◌<◌, ◌≤◌, Bool, true, false, List, length, take, drop, Option, None, refl, sym, ap, ◌∙◌, subst, arith, length-drop, drop-drop}
+use Rattle.std.proofs.Common.{◌≡◌, ℕ, zero, suc, eqb, ◌+◌, ◌-◌, ◌<◌, ◌≤◌, false, List, length, drop, None, refl, sym, ap, ◌∙◌, subst, arith, length-drop, drop-drop}
 use Rattle.std.specs.Prelude.{slice_range}
 use Rattle.ir_lex.specs.declared.token.TokenKind.{TokenKind}
 use Rattle.ir_lex.specs.Spelling.{after_gap, NoneLonger, IsLongest}
 use Rattle.ir_lex.specs.Scan.{plain_label_rest}
 use Rattle.ir_lex.specs.Best.{IsBest}
-use Rattle.ir_lex.specs.Next.{Place, IsNext, NothingNext, Unlabelled}
+use Rattle.ir_lex.specs.Next.{IsNext, NothingNext}
 use Rattle.ir_lex.proofs.Ranks.{best_is_longest, best_none_longer}
 
 pub some_from_test : (n : ℕ) → false ≡ eqb n 0 → 0 < n

@@ -1,4 +1,3 @@
-use Rattle.std.proofs.Common.{◌≡◌, ℕ, ◌<◌}
 use Rattle.ir_lex.proofs.Ranks.{best_next}
 use Rattle.ir_lex.proofs.longest.longer.Goals as goal
 

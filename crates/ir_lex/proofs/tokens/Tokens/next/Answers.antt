@@ -1,4 +1,4 @@
-use Rattle.std.proofs.Common.{◌≡◌, ℕ, ◌+◌, ◌-◌, ◌<◌, ◌≤◌, length, drop, subst, sym, ◌∙◌, arith}
+use Rattle.std.proofs.Common.{◌+◌, ◌<◌, length, subst, arith}
 use Rattle.std.specs.Prelude.{slice_range}
 use Rattle.ir_lex.specs.Next.{IsNext, NothingNext}
 use Rattle.ir_lex.proofs.NextSteps.{some_from_test, nothing_next, next_within, is_next, unlabelled_from}
