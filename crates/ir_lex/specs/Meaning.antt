@@ -25,15 +25,16 @@ decoded zero value (b ∷ bs) = if b == 92 then decoded 2 0 bs else b ∷ decode
 decoded (suc zero) value (b ∷ bs) = (16 * value + digit_value b) ∷ decoded 0 0 bs
 decoded (suc (suc owed)) value (b ∷ bs) = decoded (suc owed) (16 * value + digit_value b) bs
 
--- a number in decimal, behind a minus sign or not
-abbrev pub number : List ℕ → Token
-number bytes =
-    if slice_index bytes 0 == 45 then token.Number true (digits_value 10 (drop 1 bytes))
-    else token.Number false (digits_value 10 bytes)
+abbrev pub is_negative : List ℕ → Bool
+is_negative bytes = slice_index bytes 0 == 45
+
+-- the digits of a number
+abbrev pub digits_of : List ℕ → List ℕ
+digits_of bytes = if is_negative bytes then drop 1 bytes else bytes
 
 abbrev pub meaning : TokenKind → List ℕ → Token
 meaning Word bytes = token.Word bytes
-meaning Number bytes = number bytes
+meaning Number bytes = token.Number (is_negative bytes) (digits_value 10 (digits_of bytes))
 meaning Global bytes = token.Global (unquoted (drop 1 bytes))
 meaning Local bytes = token.Local (unquoted (drop 1 bytes))
 meaning Label bytes = token.Label (unquoted (take (length bytes - 1) bytes))
