@@ -1,0 +1,6 @@
+pub mod Fronts
+pub mod KindFronts
+pub mod NextSteps
+pub mod Once
+pub mod Ranks
+pub mod Unlabelled
