@@ -1,0 +1,9 @@
+pub mod Views
+pub mod Lists
+pub mod Places
+pub mod Kept
+pub mod Keeps
+pub mod RowKeeps
+pub mod Steps
+pub mod Ready
+pub mod Reached
