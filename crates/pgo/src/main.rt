@@ -1,0 +1,31 @@
+//! The program: the words of the command line, the system's files and the standard streams, to the status.
+#![tactic(auto)]
+
+use pgo_base::{FileStore, QuietGate, StreamSink};
+use pgo_top::{Status, pgo};
+use std::alloc::Global;
+use std::process::ExitCode;
+use std::{env, io};
+
+// The words after the program's name.
+fn words_of(rt: &HostRuntime, alloc: Global) -> io::Result<Vec<String>> {
+    let mut words = Vec::new(alloc);
+    for word in env::args(rt)?.skip(1) {
+        words.push(word)?;
+    }
+    Ok(words)
+}
+
+fn main(rt: HostRuntime) -> ExitCode {
+    let alloc = rt.alloc();
+    let Ok(words) = words_of(&rt, alloc) else {
+        return ExitCode::from(Status::Memory as u8);
+    };
+    let mut store = FileStore::new(&rt, alloc);
+    let mut out = StreamSink::new(rt.stdout());
+    let mut err = StreamSink::new(rt.stderr());
+    let status = pgo(
+        &rt, alloc, &words, &mut store, &mut out, &mut err, &QuietGate,
+    );
+    ExitCode::from(status as u8)
+}

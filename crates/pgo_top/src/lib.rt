@@ -1,0 +1,11 @@
+//! The top call: a list of words, files and outputs to a status.
+#![tactic(auto)]
+
+mod plan;
+mod top;
+
+pub use pgo_shell::Status;
+pub use top::pgo;
+
+#[cfg(test)]
+mod tests;
