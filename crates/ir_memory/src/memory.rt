@@ -1,0 +1,233 @@
+//! The memory: live allocations by rising number.
+ghost use Rattle.std.specs.Prelude.{◌≡◌, ℕ, ◌+◌, ◌-◌, ◌^◌, ◌<◌, ◌≤◌, ◌↔◌, max, length, option_map, true, OnOk, OnErr, IfOk, IfErr, IfSome, MatchOption};
+
+use crate::allocation::Allocation;
+use crate::cell::Cell;
+use crate::cells::Cells;
+use crate::contents::{decode, encode};
+use crate::error::MemError;
+use crate::value::{Base, Value};
+use std::alloc::Global;
+use std::marker::Model;
+
+/// The greatest number of live cells, of which each object counts as one at least.
+pub const CELL_LIMIT: u64 = 1_048_576;
+
+/// Numbered objects of cells. Numbers rise from 0 and are not used again.
+#[derive(Drop)]
+pub struct Memory {
+    alloc: Global,
+    next: u64,
+    live: Vec<Allocation>,
+    live_cells: u64,
+}
+
+impl Model for Memory {
+    ghost use Rattle.ir_memory.specs.Memory.{MemoryState};
+    ghost use Rattle.ir_memory.specs.Sound.{IsSound};
+
+    ghost Value = { MemoryState };
+
+    ghost view = { λ m. record { next = m.next; live = m.live.items } };
+
+    ghost invariant = { λ m. IsSound m.next m.live.items m.live_cells };
+}
+
+impl Memory {
+    ghost use Rattle.ir_memory.specs.Contents.{FitsIn, is_pointer};
+    ghost use Rattle.ir_memory.specs.Laws.{ChangesOnlyRange, ReadsPointer};
+    ghost use Rattle.ir_memory.specs.Memory.{empty_memory, found, live_cells, made, dropped, loaded, placed, stored, written, cells_at, IsMakeRefusal, IsAt};
+
+    /// A memory with no object, which takes no memory itself.
+    pub fn new(alloc: Global) -> Memory
+        ensures { result ≡ empty_memory }
+    {
+        Memory {
+            alloc,
+            next: 0,
+            live: Vec::new(alloc),
+            live_cells: 0,
+        }
+    }
+
+    /// A new object of `size` zero bytes, by its number, as an `alloca` or a global takes one. It is refused with
+    /// `Cells` where the live cells would pass `CELL_LIMIT`, and with `NoMemory` where there is no memory for them.
+    pub fn make(&mut self, size: u64, constant: bool) -> Result<u64, MemError>
+        requires { self.old.next < 2 ^ 64 - 1 }
+        ensures number { IfOk result (λ number. number ≡ self.old.next) }
+        ensures ok { OnOk result (self.new ≡ made self.old size constant) }
+        ensures next_within { self.new.next ≤ self.old.next + 1 }
+        ensures not_used_before { found self.old.live self.old.next ≡ None }
+        ensures cells { (result ≡ Err MemError.Cells)
+            ↔ (CELL_LIMIT < live_cells self.old.live + max 1 size) }
+        ensures err { IfErr result IsMakeRefusal }
+        ensures unchanged { OnErr result (self.new ≡ self.old) }
+    {
+        let counted = size.max(1);
+        if counted > CELL_LIMIT - self.live_cells {
+            return Err(MemError::Cells);
+        }
+        let cells = Cells::zeros(self.alloc, size as usize)?;
+        self.live.push(Allocation {
+            number: self.next,
+            constant,
+            cells,
+        })?;
+        let number = self.next;
+        self.next += 1;
+        self.live_cells += counted;
+        Ok(number)
+    }
+
+    /// Fills `width` bytes of an object with an initial value, whether it is constant or not. It is refused with
+    /// `Access` where the range lies in no live object.
+    pub fn place(
+        &mut self,
+        object: u64,
+        offset: u64,
+        width: u32,
+        value: Value,
+    ) -> Result<(), MemError>
+        requires width { width ≤ 8 }
+        requires value { FitsIn width value }
+        ensures ok { OnOk result (placed self.old object offset width value ≡ Ok self.new) }
+        ensures err { IfErr result (λ e. placed self.old object offset width value ≡ Err e) }
+        ensures unchanged { OnErr result (self.new ≡ self.old) }
+        ensures next_stays { self.new.next ≡ self.old.next }
+        ensures loads_back { OnOk result
+            (loaded self.new (Base.Object object) offset width (is_pointer value) ≡ Ok value) }
+        ensures elsewhere { OnOk result
+            (ChangesOnlyRange self.old self.new (Base.Object object) offset width) }
+    {
+        self.write(false, object, offset, width, value)
+    }
+
+    /// Reads `width` bytes as an integer, or eight as a pointer: LLVM Language Reference, "'load' Instruction". It is
+    /// refused with `Access` where the range lies in no live object, and with `BadPointer` where a pointer is read from
+    /// other cells than eight zero bytes or the pieces of one pointer.
+    pub fn load(
+        &self,
+        base: Base,
+        offset: u64,
+        width: u32,
+        pointer: bool,
+    ) -> Result<Value, MemError>
+        requires width { width ≤ 8 }
+        requires pointer { pointer ≡ true → width ≡ 8 }
+        ensures value { result ≡ loaded self.now base offset width pointer }
+        ensures pointer { pointer ≡ true → ReadsPointer (cells_at self.now base offset width) result }
+    {
+        match self.cells_at(base, offset, width) {
+            Some(cells) => decode(cells, pointer),
+            None => Err(MemError::Access),
+        }
+    }
+
+    /// Writes a value of `width` bytes: LLVM Language Reference, "'store' Instruction". It is refused with `Access`
+    /// where the range lies in no live object, or the object is constant.
+    pub fn store(
+        &mut self,
+        base: Base,
+        offset: u64,
+        width: u32,
+        value: Value,
+    ) -> Result<(), MemError>
+        requires width { width ≤ 8 }
+        requires value { FitsIn width value }
+        ensures ok { OnOk result (stored self.old base offset width value ≡ Ok self.new) }
+        ensures err { IfErr result (λ e. stored self.old base offset width value ≡ Err e) }
+        ensures unchanged { OnErr result (self.new ≡ self.old) }
+        ensures next_stays { self.new.next ≡ self.old.next }
+        ensures loads_back { OnOk result
+            (loaded self.new base offset width (is_pointer value) ≡ Ok value) }
+        ensures elsewhere { OnOk result (ChangesOnlyRange self.old self.new base offset width) }
+    {
+        match base {
+            Base::Object(object) => self.write(true, object, offset, width, value),
+            Base::Null | Base::Function(_) => Err(MemError::Access),
+        }
+    }
+
+    /// Ends all objects numbered `object` or more, as those of a function that returns.
+    pub fn drop_from(&mut self, object: u64)
+        ensures value { self.new ≡ dropped self.old object }
+        ensures ended { (i : ℕ) → object ≤ i → found self.new.live i ≡ None }
+        ensures kept { (i : ℕ) → i < object → found self.new.live i ≡ found self.old.live i }
+    {
+        let keep = self.live.partition_point(|a| a.number < object);
+        let ended = counted_cells(&self.live[keep..]);
+        self.live.truncate(keep);
+        self.live_cells -= ended;
+    }
+
+    fn cells_at(&self, base: Base, offset: u64, width: u32) -> Option<&[Cell]>
+        ensures value { option_map (λ s. s.now) result ≡ cells_at self.now base offset width }
+        ensures width { IfSome result (λ s. length s.now ≡ width) }
+    {
+        let Base::Object(object) = base else {
+            return None;
+        };
+        let at = self.index_of(object)?;
+        self.live[at].cells.range(offset, width)
+    }
+
+    fn index_of(&self, number: u64) -> Option<usize>
+        ensures { MatchOption result (found self.now.live number ≡ None)
+            (λ at. IsAt self.now.live number at) }
+    {
+        match self.live.binary_search_by_key(&number, |a| a.number) {
+            Ok(at) => Some(at),
+            Err(_) => None,
+        }
+    }
+
+    /// Writes a value; a constant object is refused where `protect` holds.
+    fn write(
+        &mut self,
+        protect: bool,
+        number: u64,
+        offset: u64,
+        width: u32,
+        value: Value,
+    ) -> Result<(), MemError>
+        requires width { width ≤ 8 }
+        requires value { FitsIn width value }
+        ensures ok { OnOk result
+            (written protect self.old number offset width value ≡ Ok self.new) }
+        ensures err { IfErr result
+            (λ e. written protect self.old number offset width value ≡ Err e) }
+        ensures unchanged { OnErr result (self.new ≡ self.old) }
+        ensures next_stays { self.new.next ≡ self.old.next }
+        ensures loads_back { OnOk result
+            (loaded self.new (Base.Object number) offset width (is_pointer value) ≡ Ok value) }
+        ensures elsewhere { OnOk result
+            (ChangesOnlyRange self.old self.new (Base.Object number) offset width) }
+    {
+        let Some(at) = self.index_of(number) else {
+            return Err(MemError::Access);
+        };
+        let allocation = &mut self.live[at];
+        if !allocation.accepts(protect, offset, width) {
+            return Err(MemError::Access);
+        }
+        let cells = encode(value);
+        allocation
+            .cells
+            .write(offset as usize, &cells[..width as usize]);
+        Ok(())
+    }
+}
+
+ghost use Rattle.ir_memory.specs.Memory.{live_cells as cells_of_list};
+
+/// How many cells the objects count as.
+fn counted_cells(live: &[Allocation]) -> u64
+    requires { cells_of_list live.now ≤ CELL_LIMIT }
+    ensures { result ≡ cells_of_list live.now }
+{
+    let mut all = 0;
+    for a in live {
+        all += (a.cells.len() as u64).max(1);
+    }
+    all
+}
