@@ -1,7 +1,6 @@
 //! The top call: a list of words, files and outputs to a status.
 #![tactic(auto)]
 
-mod plan;
 mod top;
 
 pub use pgo_shell::Status;
