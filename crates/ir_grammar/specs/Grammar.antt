@@ -1,0 +1,348 @@
+-- The module text (LLVM Language Reference, "Module Structure", "Functions", "Instruction Reference"), as a grammar over
+-- tokens. Each production says in its own lines what it reads, and its `Spells` is the relation that they describe.
+--
+-- Spelled today: the declaration of `print_i64`, definitions over `i64` whose blocks all have labels, `add` without
+-- flags, `icmp`, the call of `print_i64`, both forms of `br`, and `ret`.
+use Rattle.std.specs.Prelude.{◌≡◌, ℕ, ◌-◌, ◌^◌, ◌%◌, Bool, true, false, cond, not, ◌||◌, List, [], ◌∷◌, Option, Some, None, nat_lt, nat_le, codes}
+use Rattle.std.specs.Option.{option_map, option_and_then}
+use Rattle.ir_lex.specs.Tokens.{Token, Word, Number, Global, Local}
+use Rattle.ir_tree.specs.declared.types.Ty.{Ty}
+use Rattle.ir_tree.specs.declared.types.Ty.TheVariants.{I1, I64}
+use Rattle.ir_tree.specs.declared.types.Ty.TheVariants as types
+use Rattle.ir_tree.specs.declared.types.Ret.{Ret}
+use Rattle.ir_tree.specs.declared.types.Ret.TheVariants.{Void, Value}
+use Rattle.ir_tree.specs.declared.types.Operand.{Operand}
+use Rattle.ir_tree.specs.declared.types.Operand.TheVariants as operands
+use Rattle.ir_tree.specs.declared.types.BinOp.{BinOp}
+use Rattle.ir_tree.specs.declared.types.BinOp.TheVariants as operators
+use Rattle.ir_tree.specs.declared.types.Pred.{Pred}
+use Rattle.ir_tree.specs.declared.types.Pred.TheVariants as predicates
+use Rattle.ir_tree.specs.declared.types.Flags.{Flags}
+use Rattle.ir_tree.specs.declared.types.Instr.{Instr}
+use Rattle.ir_tree.specs.declared.types.Instr.TheVariants.{Binary, Compare, Call}
+use Rattle.ir_tree.specs.declared.types.Term.{Term}
+use Rattle.ir_tree.specs.declared.types.Term.TheVariants as terms
+use Rattle.ir_tree.specs.declared.types.Block.{Block}
+use Rattle.ir_tree.specs.declared.types.Function.{Function}
+use Rattle.ir_tree.specs.declared.types.Module.{Module}
+use Rattle.std.proofs.Common.{refl, ◌∙◌}
+use Rattle.ir_grammar.specs.Rules.{Rule, AreMany, pure, one, either, many, many_after, TakesToken, then_takes, either_takes, ◌>>=◌, ◌>>◌}
+use Rattle.ir_grammar.specs.Words.{Tokens, same, when, is_word, is_sign, is_label, is_local, first_is, any_left, word, sign, local, label, word_takes, sign_takes, local_takes, label_takes}
+
+-- # Types
+
+-- T
+abbrev pub type_of : List ℕ → Option Ty
+type_of text = when (same text (codes "i64")) I64
+
+abbrev pub type_meaning : Token → Option Ty
+type_meaning (Word text) = type_of text
+type_meaning _ = None
+
+unfoldable pub value_type : Rule Token Ty
+value_type = one type_meaning
+
+-- RT: `void` or T
+abbrev pub return_of : List ℕ → Option Ret
+return_of text = cond (same text (codes "void")) (Some Void) (option_map Value (type_of text))
+
+abbrev pub return_meaning : Token → Option Ret
+return_meaning (Word text) = return_of text
+return_meaning _ = None
+
+unfoldable pub return_type : Rule Token Ret
+return_type = one return_meaning
+
+-- # Operands
+
+-- the bits of an integer type
+abbrev pub width_of : Ty → Option ℕ
+width_of I1 = Some 1
+width_of types.I8 = Some 8
+width_of types.I16 = Some 16
+width_of types.I32 = Some 32
+width_of I64 = Some 64
+width_of types.Ptr = None
+
+-- a number from -2^(w-1) to 2^w - 1, kept modulo 2^w; the sign comes first, and then the magnitude
+abbrev pub literal_of_width : Bool → ℕ → ℕ → Option ℕ
+literal_of_width true magnitude w = when (nat_le magnitude (2 ^ (w - 1))) ((2 ^ w - magnitude) % 2 ^ w)
+literal_of_width false magnitude w = when (nat_lt magnitude (2 ^ w)) magnitude
+
+abbrev pub literal_of : Ty → Bool → ℕ → Option ℕ
+literal_of ty minus magnitude = option_and_then (literal_of_width minus magnitude) (width_of ty)
+
+-- V: a local or a literal of the type
+abbrev pub operand_meaning : Ty → Token → Option Operand
+operand_meaning ty (Local name) = Some (operands.Local name)
+operand_meaning ty (Number minus magnitude) = option_map operands.Int (literal_of ty minus magnitude)
+operand_meaning ty _ = None
+
+unfoldable pub operand : Ty → Rule Token Operand
+operand ty = one (operand_meaning ty)
+
+-- # Instructions
+
+-- the function that may be declared and called without a definition of its own
+abbrev pub print_name : List ℕ
+print_name = codes "print_i64"
+
+abbrev pub known_callee : Token → Option (List ℕ)
+known_callee (Global name) = when (same name print_name) name
+known_callee _ = None
+
+unfoldable pub callee : Rule Token (List ℕ)
+callee = one known_callee
+
+abbrev pub operator_of : List ℕ → Option BinOp
+operator_of text = when (same text (codes "add")) operators.Add
+
+abbrev pub operator_meaning : Token → Option BinOp
+operator_meaning (Word text) = operator_of text
+operator_meaning _ = None
+
+unfoldable pub operator : Rule Token BinOp
+operator = one operator_meaning
+
+abbrev pub no_flags : Flags
+no_flags = record { nuw = false; nsw = false; exact = false }
+
+-- `T V, V`: both operands have the type
+unfoldable pub two_operands : Rule Token (Ty × Operand × Operand)
+two_operands = do
+  ty ← value_type
+  left ← operand ty
+  sign 44
+  right ← operand ty
+  pure (ty, left, right)
+
+-- `OP T V, V`
+unfoldable pub binary : List ℕ → Rule Token Instr
+binary dest = do
+  op ← operator
+  (ty, left, right) ← two_operands
+  pure (Binary dest op no_flags ty left right)
+
+abbrev pub predicate_of : List ℕ → Option Pred
+predicate_of text =
+    cond (same text (codes "eq")) (Some predicates.Eq)
+    (cond (same text (codes "ne")) (Some predicates.Ne)
+    (cond (same text (codes "ugt")) (Some predicates.Ugt)
+    (cond (same text (codes "uge")) (Some predicates.Uge)
+    (cond (same text (codes "ult")) (Some predicates.Ult)
+    (cond (same text (codes "ule")) (Some predicates.Ule)
+    (cond (same text (codes "sgt")) (Some predicates.Sgt)
+    (cond (same text (codes "sge")) (Some predicates.Sge)
+    (cond (same text (codes "slt")) (Some predicates.Slt)
+    (cond (same text (codes "sle")) (Some predicates.Sle) None)))))))))
+
+abbrev pub predicate_meaning : Token → Option Pred
+predicate_meaning (Word text) = predicate_of text
+predicate_meaning _ = None
+
+unfoldable pub predicate : Rule Token Pred
+predicate = one predicate_meaning
+
+-- `icmp PRED T V, V`
+unfoldable pub compare : List ℕ → Rule Token Instr
+compare dest = do
+  word (codes "icmp")
+  pred ← predicate
+  (ty, left, right) ← two_operands
+  pure (Compare dest pred ty left right)
+
+-- what stands behind `%d =`
+unfoldable pub operation : List ℕ → Rule Token Instr
+operation dest = either (first_is (is_word (codes "icmp"))) (compare dest) (binary dest)
+
+-- `%d = ..`
+unfoldable pub assigned : Rule Token Instr
+assigned = do
+  dest ← local
+  sign 61
+  operation dest
+
+-- `call void @print_i64(i64 V)`
+unfoldable pub print_call : Rule Token Instr
+print_call = do
+  word (codes "call")
+  word (codes "void")
+  name ← callee
+  sign 40
+  ty ← value_type
+  value ← operand ty
+  sign 41
+  pure (Call None Void (operands.Global name) ((ty, value) ∷ []) None)
+
+-- an instruction begins with the name of its result, or with the word of one that has none
+abbrev pub starts_instr : Token → Bool
+starts_instr t = is_local t || is_word (codes "call") t
+
+unfoldable pub instr : Rule Token Instr
+instr = either (first_is is_local) assigned print_call
+
+-- # Terminators
+
+-- `label %b`
+unfoldable pub target : Rule Token (List ℕ)
+target = word (codes "label") >> local
+
+-- `label %b`, behind `br`
+unfoldable pub jump : Rule Token Term
+jump = do
+  to ← target
+  pure (terms.Br to)
+
+-- `i1 V, label %b, label %b`, behind `br`
+unfoldable pub branch : Rule Token Term
+branch = do
+  word (codes "i1")
+  condition ← operand I1
+  sign 44
+  first ← target
+  sign 44
+  second ← target
+  pure (terms.CondBr condition first second None)
+
+unfoldable pub br : Rule Token Term
+br = word (codes "br") >> either (first_is (is_word (codes "label"))) jump branch
+
+-- `void`, behind `ret`
+unfoldable pub no_value : Rule Token Term
+no_value = word (codes "void") >> pure (terms.Ret None)
+
+-- `T V`, behind `ret`
+unfoldable pub returned : Rule Token Term
+returned = do
+  ty ← value_type
+  value ← operand ty
+  pure (terms.Ret (Some (ty, value)))
+
+unfoldable pub ret : Rule Token Term
+ret = word (codes "ret") >> either (first_is (is_word (codes "void"))) no_value returned
+
+unfoldable pub terminator : Rule Token Term
+terminator = either (first_is (is_word (codes "br"))) br ret
+
+-- # Blocks
+
+pub instr_takes : TakesToken instr
+unfolding instr assigned print_call
+instr_takes = either_takes (then_takes _ local_takes) (then_takes _ (word_takes (codes "call")))
+
+unfoldable pub instrs : Rule Token (List Instr)
+instrs = many (first_is starts_instr) instr instr_takes
+
+-- a label, instructions and a terminator
+unfoldable pub block : Rule Token Block
+block = do
+  name ← label
+  body ← instrs
+  end ← terminator
+  pure (record { label = name; instrs = body; term = end })
+
+pub block_takes : TakesToken block
+unfolding block
+block_takes = then_takes _ label_takes
+
+-- # Functions
+
+-- `T %a`
+unfoldable pub parameter : Rule Token (Ty × List ℕ)
+parameter = do
+  ty ← value_type
+  name ← local
+  pure (ty, name)
+
+unfoldable pub next_parameter : Rule Token (Ty × List ℕ)
+next_parameter = sign 44 >> parameter
+
+pub next_parameter_takes : TakesToken next_parameter
+unfolding next_parameter
+next_parameter_takes = then_takes _ (sign_takes 44)
+
+-- one or more parameters, parted by commas
+unfoldable pub some_parameters : Rule Token (List (Ty × List ℕ))
+some_parameters = do
+  first ← parameter
+  many_after (first ∷ []) (first_is (is_sign 44)) next_parameter next_parameter_takes
+
+-- `(T %a, T %b)`
+unfoldable pub parameters : Rule Token (List (Ty × List ℕ))
+parameters = do
+  sign 40
+  list ← either (first_is (is_sign 41)) (pure []) some_parameters
+  sign 41
+  pure list
+
+-- one or more blocks
+unfoldable pub blocks : Rule Token (List Block)
+blocks = do
+  entry ← block
+  many_after (entry ∷ []) (first_is is_label) block block_takes
+
+-- a definition is of another function than `print_i64`
+abbrev pub defined_meaning : Token → Option (List ℕ)
+defined_meaning (Global name) = when (not (same name print_name)) name
+defined_meaning _ = None
+
+unfoldable pub defined_name : Rule Token (List ℕ)
+defined_name = one defined_meaning
+
+-- `define RT @f(T %a, T %b) { blocks }`
+unfoldable pub definition : Rule Token Function
+definition = do
+  word (codes "define")
+  gives ← return_type
+  name ← defined_name
+  list ← parameters
+  sign 123
+  body ← blocks
+  sign 125
+  pure (record { name = name; ret = gives; params = list; blocks = body; prof = None })
+
+-- `declare void @print_i64(i64)`
+unfoldable pub declaration : Rule Token Function
+declaration = do
+  word (codes "declare")
+  word (codes "void")
+  name ← callee
+  sign 40
+  ty ← value_type
+  sign 41
+  pure (record { name = name; ret = Void; params = (ty, []) ∷ []; blocks = []; prof = None })
+
+unfoldable pub function : Rule Token Function
+function = either (first_is (is_word (codes "declare"))) declaration definition
+
+pub function_takes : TakesToken function
+unfolding function declaration definition
+function_takes = either_takes (then_takes _ (word_takes (codes "declare"))) (then_takes _ (word_takes (codes "define")))
+
+-- # Modules
+
+unfoldable pub functions : Rule Token (List Function)
+functions = many any_left function function_takes
+
+-- any number of functions
+unfoldable pub «module» : Rule Token Module
+«module» = do
+  list ← functions
+  pure (record { globals = []; functions = list })
+
+-- the tokens, all of them, spell the module
+abbrev pub Spells : Tokens → Module → Type 0
+Spells ts m = («module»).Spells ts m []
+
+-- The functions of a module go up to the last token, so what is left behind a module is nothing.
+pub none_left : (ts : Tokens) → any_left ts ≡ false → ts ≡ []
+none_left [] e = refl
+none_left (t ∷ ts) e = absurd (cc)
+
+pub functions_end : (ts : Tokens) (list : List Function) (rest : Tokens) → AreMany any_left function ts list rest → rest ≡ []
+functions_end ts [] rest (e, f) = f ∙ none_left ts e
+functions_end ts (x ∷ xs) rest (e, middle, first, others) = functions_end middle xs rest others
+
+pub module_ends : (ts : Tokens) (m : Module) (rest : Tokens) → («module»).Spells ts m rest → rest ≡ []
+unfolding «module» functions
+module_ends ts m rest (list, middle, h, end) = end.1 ∙ functions_end ts list middle h
