@@ -1,0 +1,5 @@
+pub mod Places
+pub mod Registers
+pub mod InStep
+pub mod Turns
+pub mod Calls

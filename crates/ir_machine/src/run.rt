@@ -1,0 +1,67 @@
+// The run of a call on resolved code.
+ghost use Rattle.std.specs.Prelude.{◌≡◌, List, [], ◌++◌, IfOk, OnErr, OnOk};
+ghost use Rattle.ir_model.specs.declared.probe.Event.{Event};
+ghost use Rattle.ir_model.specs.Machine.{run};
+ghost use Rattle.ir_model.specs.Run.{run_of, result_of, marks_of, IsValidCall};
+ghost use Rattle.ir_machine.specs.Steps.{first_stage, code_step, result_from};
+
+use crate::code::FunctionCode;
+use crate::machine::{Machine, run_on};
+use crate::program::Code;
+use ir_model::{Call, CallResult, Probe};
+use ir_tree::Seq;
+use pgo_base::NoMemory;
+use std::alloc::Global;
+
+/// Runs a function from its first block.
+fn run_function(
+    alloc: Global,
+    function: &FunctionCode,
+    args: &[u64],
+    steps: u64,
+) -> Result<CallResult, NoMemory>
+    ensures { IfOk result (λ r. r ≡ result_from [] (run (code_step function.now.blocks) steps (first_stage function.now args.now))) }
+{
+    let mut registers = Vec::from_slice(alloc, args)?;
+    registers.resize(function.registers, 0)?;
+    let mut machine = Machine {
+        block: 0,
+        place: 0,
+        registers,
+        printed: Vec::new(alloc),
+    };
+    let end = run_on(function.blocks.as_slice(), &mut machine, steps)?;
+    let Machine { printed, .. } = machine;
+    Ok(CallResult {
+        printed: Seq::of(printed),
+        end,
+    })
+}
+
+/// Runs the function of a call.
+fn run_valid(alloc: Global, code: &Code, call: &Call, steps: u64) -> Result<CallResult, NoMemory>
+    requires { IsValidCall code.now call.now }
+    ensures { IfOk result (λ r. r ≡ result_of (run_of code.now call.now steps)) }
+{
+    let functions = code.functions();
+    let function = &functions[call.function as usize];
+    run_function(alloc, function, call.args.as_slice(), steps)
+}
+
+/// Runs a call on the code of a module, for at most `steps` steps: what it prints and how it ends.
+/// A step is one instruction or one terminator. The probe is told the marks of the run in order;
+/// after `NoMemory` it was told a first part of them.
+pub fn run_call<P: Probe>(
+    alloc: Global,
+    code: &Code,
+    call: &Call,
+    steps: u64,
+    probe: &mut P,
+) -> Result<CallResult, NoMemory>
+    requires valid { IsValidCall code.now call.now }
+    ensures result { IfOk result (λ r. r ≡ result_of (run_of code.now call.now steps)) }
+    ensures marks { OnOk result (P.after probe.old (marks_of (run_of code.now call.now steps)) probe.new) }
+    ensures first_marks { OnErr result ((told rest : List Event) × (marks_of (run_of code.now call.now steps) ≡ told ++ rest) × P.after probe.old told probe.new) }
+{
+    run_valid(alloc, code, call, steps)
+}

@@ -1,0 +1,78 @@
+-- The run of a call, what of it is a result, and which calls are valid.
+use Rattle.std.specs.Prelude.{ℕ, ◌^◌, ◌<◌, ◌≤◌, List, [], ◌∷◌, Option, Some, None, length, All}
+use Rattle.ir_tree.specs.declared.types.Ty.{Ty}
+use Rattle.ir_tree.specs.declared.types.Ty.TheVariants.{I1, I8, I16, I32, I64, Ptr}
+use Rattle.ir_tree.specs.declared.types.Block.{Block}
+use Rattle.ir_tree.specs.declared.types.Function.{Function}
+use Rattle.ir_tree.specs.declared.types.Module.{Module}
+use Rattle.ir_model.specs.declared.result.TrapKind.TheVariants as trap
+use Rattle.ir_model.specs.declared.result.End.TheVariants as end
+use Rattle.ir_model.specs.declared.result.CallResult.{CallResult}
+use Rattle.ir_model.specs.declared.result.Call.{Call}
+use Rattle.ir_model.specs.declared.probe.Event.{Event}
+use Rattle.ir_model.specs.Machine.{Ran, Open, Ended, go_on, run, shown_of}
+use Rattle.ir_model.specs.State.{arguments, Shown, Printed, Entered, Walked, printed, Stop, Returns, Traps}
+use Rattle.ir_model.specs.Step.{Step, fails, goes_to, function_at, step}
+
+-- the state in which function k is entered with these arguments
+abbrev pub entered : ℕ → List ℕ → Function → List Block → Step
+entered k values f [] = fails trap.Unreachable
+entered k values f (b ∷ bs) =
+    goes_to (record { function = k; block = b.label; place = 0; registers = arguments f.params values; into = None } ∷ []) 0 (Entered k ∷ [])
+
+abbrev pub begun : ℕ → List ℕ → Option Function → Step
+begun k values None = fails trap.Unreachable
+begun k values (Some f) = entered k values f f.blocks
+
+-- The run of a call, which ends or has taken n steps
+abbrev pub run_of : Module → Call → ℕ → Ran Shown Stop
+run_of m c n = go_on (begun c.function c.args (function_at m c.function)) (run (step m) n)
+
+-- What was printed, and the end: the value that the call returned, its trap, or that it is still open
+abbrev pub result_of : Ran Shown Stop → CallResult
+result_of (Open shown) = record { printed = printed shown; end = end.StepsSpent }
+result_of (Ended shown (Returns value)) = record { printed = printed shown; end = end.Returned value }
+result_of (Ended shown (Traps kind)) = record { printed = printed shown; end = end.Trapped kind }
+
+-- What a probe sees: the additions to counters and the notes of call targets, in order. No instruction of the
+-- language so far makes one.
+abbrev pub marks : List Shown → List Event
+marks [] = []
+marks (Printed b ∷ xs) = marks xs
+marks (Entered k ∷ xs) = marks xs
+marks (Walked k l p ∷ xs) = marks xs
+
+abbrev pub marks_of : Ran Shown Stop → List Event
+marks_of ran = marks (shown_of ran)
+
+-- is `value` an integer of this type?
+abbrev pub FitsType : Ty → ℕ → Type 0
+FitsType I1 value = value < 2
+FitsType I8 value = value < 2 ^ 8
+FitsType I16 value = value < 2 ^ 16
+FitsType I32 value = value < 2 ^ 32
+FitsType I64 value = value < 2 ^ 64
+FitsType Ptr value = ⊥
+
+-- One argument for each parameter, each an integer of the parameter's type
+abbrev pub FitsAll : List (Ty × List ℕ) → List ℕ → Type 0
+FitsAll [] [] = Unit {0}
+FitsAll [] (v ∷ vs) = ⊥
+FitsAll (p ∷ ps) [] = ⊥
+FitsAll (p ∷ ps) (v ∷ vs) = FitsType p.0 v × FitsAll ps vs
+
+abbrev pub FitsFunction : Option Function → List ℕ → Type 0
+FitsFunction None values = ⊥
+FitsFunction (Some f) values = (0 < length f.blocks) × FitsAll f.params values
+
+-- A call is valid where its function is defined, all its parameters are integers, and each has an argument of its type
+abbrev pub IsValidCall : Module → Call → Type 0
+IsValidCall m c = FitsFunction (function_at m c.function) c.args
+
+-- the most calls of a list
+abbrev pub calls_most : ℕ
+calls_most = 16384
+
+pub record IsValidCallList (m : Module) (calls : List Call) : Type 0 where
+  pub count : length calls ≤ calls_most
+  pub valid : All (IsValidCall m) calls

@@ -1,0 +1,19 @@
+// Laws of runs, each the clause of a function that does nothing.
+ghost use Rattle.std.specs.Prelude.{ℕ, ◌+◌, ◌≤◌, length};
+ghost use Rattle.ir_tree.specs.declared.types.Module.{Module};
+ghost use Rattle.ir_model.specs.declared.result.Call.{Call};
+ghost use Rattle.ir_model.specs.Machine.{Within, shown_of};
+ghost use Rattle.ir_model.specs.State.{printed};
+ghost use Rattle.ir_model.specs.Step.{output_most};
+ghost use Rattle.ir_model.specs.Run.{run_of};
+
+/// A run of more steps goes on from one of fewer: a call that ended stays as it ended, and one that
+/// is open has printed a first part of what it prints.
+pub fn more_steps_go_on()
+    ensures { (m : Module) (c : Call) (n k : ℕ) → Within (run_of m c n) (run_of m c (n + k)) }
+{}
+
+/// No call prints more bytes than the limit.
+pub fn output_is_bounded()
+    ensures { (m : Module) (c : Call) (n : ℕ) → length (printed (shown_of (run_of m c n))) ≤ output_most }
+{}
