@@ -1,0 +1,25 @@
+use Rattle.std.specs.Prelude.{ℕ, Bool, not, List, [], ◌∷◌, drop, Option, None, Some}
+use Rattle.ir_lex.specs.Tokens.{Token}
+use Rattle.ir_lex.specs.Next.{Place}
+use Rattle.ir_read.specs.declared.item.Item.{Item}
+use Rattle.ir_read.specs.Items.{token_of}
+use Rattle.ir_read.specs.Cut.{tokens_of, is_whole}
+
+-- the tokens that are left, up to the end or up to the first place where none is spelled, and whether they go up to the
+-- end
+pub record Ahead : Type 0 where
+  pub tokens : List Token
+  pub whole : Bool
+
+-- the text behind a place
+abbrev pub behind : Place → List ℕ
+behind place = drop place.at place.text
+
+-- what is left of a text, whose first token was looked at already
+abbrev pub tokens_ahead : Option Item → Place → List Token
+tokens_ahead None place = []
+tokens_ahead (Some item) place = token_of item ∷ tokens_of (behind place)
+
+abbrev pub whole_ahead : Option Item → Bool → Place → Bool
+whole_ahead None broken place = not broken
+whole_ahead (Some item) broken place = is_whole (behind place)

@@ -1,0 +1,5 @@
+pub mod Ahead
+pub mod Cut
+pub mod Items
+pub mod Reads
+pub mod Spelled

@@ -1,0 +1,200 @@
+//! Instructions other than terminators.
+
+ghost use Rattle.std.specs.Prelude.{◌≡◌, [], ◌∷◌, IfOk};
+ghost use Rattle.ir_grammar.specs.Grammar as grammar;
+ghost use Rattle.ir_read.specs.Reads.{Reads};
+
+use crate::cursor::Cursor;
+use crate::item::Item;
+use crate::operand::{operand, value_type};
+use crate::stop::Stop;
+use crate::word::{local, sign, word};
+use ir_tree::{BinOp, Few, Flags, Instr, Name, Operand, Pred, Ret, Ty};
+use pgo_base::NoMemory;
+use smallvec::SmallVec;
+use std::alloc::Global;
+
+/// The function that may be called without a definition of its own.
+#[tactic(auto, unfolding(ir_grammar::specs::Grammar::callee))]
+pub(crate) fn callee(alloc: Global, toks: &mut Cursor) -> Result<Name, Stop>
+    ensures { Reads result toks.old toks.new grammar.callee.read }
+{
+    match toks.next() {
+        Some(Item::Global(name)) if name == b"print_i64".as_slice() => Ok(Name::of(alloc, name)?),
+        _ => Err(Stop::Syntax),
+    }
+}
+
+fn operator_of(text: &[u8]) -> Option<BinOp>
+    ensures { result ≡ grammar.operator_of text.now }
+{
+    if text == b"add".as_slice() {
+        Some(BinOp::Add)
+    } else {
+        None
+    }
+}
+
+#[tactic(auto, unfolding(ir_grammar::specs::Grammar::operator))]
+fn operator(toks: &mut Cursor) -> Result<BinOp, Stop>
+    ensures { Reads result toks.old toks.new grammar.operator.read }
+{
+    match toks.next() {
+        Some(Item::Word(text)) => operator_of(text).ok_or(Stop::Syntax),
+        _ => Err(Stop::Syntax),
+    }
+}
+
+/// A type and two operands of it.
+#[tactic(auto, unfolding(ir_grammar::specs::Grammar::two_operands))]
+fn two_operands(alloc: Global, toks: &mut Cursor) -> Result<(Ty, Operand, Operand), Stop>
+    ensures { Reads result toks.old toks.new grammar.two_operands.read }
+{
+    let ty = value_type(toks)?;
+    let left = operand(alloc, toks, ty)?;
+    sign(toks, b',')?;
+    let right = operand(alloc, toks, ty)?;
+    Ok((ty, left, right))
+}
+
+/// A binary operator and its operands.
+#[tactic(auto, unfolding(ir_grammar::specs::Grammar::binary))]
+fn binary(alloc: Global, toks: &mut Cursor, dest: Name) -> Result<Instr, Stop>
+    ensures { Reads result toks.old toks.new (grammar.binary dest).read }
+{
+    let op = operator(toks)?;
+    let (ty, left, right) = two_operands(alloc, toks)?;
+    let flags = Flags {
+        nuw: false,
+        nsw: false,
+        exact: false,
+    };
+    Ok(Instr::Binary {
+        dest,
+        op,
+        flags,
+        ty,
+        left,
+        right,
+    })
+}
+
+fn predicate_of(text: &[u8]) -> Option<Pred>
+    ensures { result ≡ grammar.predicate_of text.now }
+{
+    if text == b"eq".as_slice() {
+        Some(Pred::Eq)
+    } else if text == b"ne".as_slice() {
+        Some(Pred::Ne)
+    } else if text == b"ugt".as_slice() {
+        Some(Pred::Ugt)
+    } else if text == b"uge".as_slice() {
+        Some(Pred::Uge)
+    } else if text == b"ult".as_slice() {
+        Some(Pred::Ult)
+    } else if text == b"ule".as_slice() {
+        Some(Pred::Ule)
+    } else if text == b"sgt".as_slice() {
+        Some(Pred::Sgt)
+    } else if text == b"sge".as_slice() {
+        Some(Pred::Sge)
+    } else if text == b"slt".as_slice() {
+        Some(Pred::Slt)
+    } else if text == b"sle".as_slice() {
+        Some(Pred::Sle)
+    } else {
+        None
+    }
+}
+
+#[tactic(auto, unfolding(ir_grammar::specs::Grammar::predicate))]
+fn predicate(toks: &mut Cursor) -> Result<Pred, Stop>
+    ensures { Reads result toks.old toks.new grammar.predicate.read }
+{
+    match toks.next() {
+        Some(Item::Word(text)) => predicate_of(text).ok_or(Stop::Syntax),
+        _ => Err(Stop::Syntax),
+    }
+}
+
+/// A comparison of two integers.
+#[tactic(auto, unfolding(ir_grammar::specs::Grammar::compare))]
+fn compare(alloc: Global, toks: &mut Cursor, dest: Name) -> Result<Instr, Stop>
+    ensures { Reads result toks.old toks.new (grammar.compare dest).read }
+{
+    word(toks, b"icmp")?;
+    let pred = predicate(toks)?;
+    let (ty, left, right) = two_operands(alloc, toks)?;
+    Ok(Instr::Compare {
+        dest,
+        pred,
+        ty,
+        left,
+        right,
+    })
+}
+
+/// What stands behind the name of a result.
+#[tactic(auto, unfolding(ir_grammar::specs::Grammar::operation))]
+fn operation(alloc: Global, toks: &mut Cursor, dest: Name) -> Result<Instr, Stop>
+    ensures { Reads result toks.old toks.new (grammar.operation dest).read }
+{
+    if toks.starts_word(b"icmp") {
+        compare(alloc, toks, dest)
+    } else {
+        binary(alloc, toks, dest)
+    }
+}
+
+/// An instruction with a result.
+#[tactic(auto, unfolding(ir_grammar::specs::Grammar::assigned))]
+fn assigned(alloc: Global, toks: &mut Cursor) -> Result<Instr, Stop>
+    ensures { Reads result toks.old toks.new grammar.assigned.read }
+{
+    let dest = local(alloc, toks)?;
+    sign(toks, b'=')?;
+    operation(alloc, toks, dest)
+}
+
+/// One argument, as the list of a call's arguments.
+fn one_argument(alloc: Global, ty: Ty, value: Operand) -> Result<Few<(Ty, Operand)>, NoMemory>
+    ensures { IfOk result (λ list. list ≡ (ty, value) ∷ []) }
+{
+    let mut list = SmallVec::new(alloc);
+    list.push((ty, value))?;
+    Ok(Few::of(list))
+}
+
+/// A call of `print_i64`.
+#[tactic(auto, unfolding(ir_grammar::specs::Grammar::print_call))]
+fn print_call(alloc: Global, toks: &mut Cursor) -> Result<Instr, Stop>
+    ensures { Reads result toks.old toks.new grammar.print_call.read }
+{
+    word(toks, b"call")?;
+    word(toks, b"void")?;
+    let name = callee(alloc, toks)?;
+    sign(toks, b'(')?;
+    let ty = value_type(toks)?;
+    let value = operand(alloc, toks, ty)?;
+    sign(toks, b')')?;
+    let args = one_argument(alloc, ty, value)?;
+    Ok(Instr::Call {
+        dest: None,
+        ret: Ret::Void,
+        callee: Operand::Global(name),
+        args,
+        prof: None,
+    })
+}
+
+/// An instruction.
+#[tactic(auto, unfolding(ir_grammar::specs::Grammar::instr))]
+pub(crate) fn instr(alloc: Global, toks: &mut Cursor) -> Result<Instr, Stop>
+    ensures { Reads result toks.old toks.new grammar.instr.read }
+{
+    if toks.starts_local() {
+        assigned(alloc, toks)
+    } else {
+        print_call(alloc, toks)
+    }
+}

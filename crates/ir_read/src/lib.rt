@@ -1,0 +1,22 @@
+//! Reads the text of a module (LLVM Language Reference). The grammar that it follows stands in `ir_grammar`, and the
+//! cutting of a text into tokens in `ir_lex`. Each production of the grammar has one function here, whose contract says
+//! that it reads what the production reads.
+#![tactic(auto)]
+
+mod block;
+mod cursor;
+mod error;
+mod function;
+mod instr;
+mod item;
+mod operand;
+mod stop;
+mod term;
+mod text;
+mod word;
+
+pub use error::ReadError;
+pub use text::read;
+
+#[cfg(test)]
+mod tests;
