@@ -1,0 +1,5 @@
+mod LineLemmas
+mod DigitLemmas
+mod ValueLemmas
+mod WalkLemmas
+mod PlaceLemmas

@@ -1,0 +1,141 @@
+// What one line of a calls text means.
+ghost use Rattle.std.specs.Prelude.{◌≡◌, ◌<◌, true, map, length, All, IfSome};
+ghost use Rattle.std.specs.List.{list_all};
+ghost use Rattle.std.specs.Str.Lines.{strip_carriage_return};
+ghost use Rattle.call_list.specs.declared.line.LineError.TheVariants as fault;
+ghost use Rattle.call_list.specs.Lines.{is_blank};
+ghost use Rattle.call_list.specs.Form.{is_passed, is_argument};
+ghost use Rattle.call_list.specs.Meaning.{place_of, call_at, meaning, Means};
+
+use crate::lines::{is_blank, words};
+use crate::values::{is_argument, name_in, values};
+use ir_check::Checked;
+use ir_model::Call;
+use std::alloc::{AllocError, AllocFailed, Global};
+
+/// Why a line gives neither a call nor nothing.
+#[derive(Clone, Copy, Debug, PartialEq, Eq, Drop)]
+pub enum LineError {
+    BadLine,
+    NoFunction,
+    BadArgs,
+    NoMemory,
+}
+
+impl From<AllocError> for LineError {
+    ghost from_gives = { λ _ e. e ≡ fault.NoMemory };
+
+    fn from(_: AllocError) -> LineError {
+        LineError::NoMemory
+    }
+}
+
+impl<T: Drop> From<AllocFailed<T>> for LineError {
+    ghost from_gives = { λ _ e. e ≡ fault.NoMemory };
+
+    fn from(_: AllocFailed<T>) -> LineError {
+        LineError::NoMemory
+    }
+}
+
+fn all_blank(line: &[u8]) -> bool
+    ensures { result ≡ list_all is_blank line.now }
+{
+    line.iter().all(|byte| is_blank(*byte))
+}
+
+// Whether the line is passed over.
+#[tactic(auto, unfolding(crate::specs::Form::is_passed))]
+fn is_passed(line: &[u8]) -> bool
+    ensures { result ≡ is_passed line.now }
+{
+    (!line.is_empty() && line[0] == b'#') || all_blank(line)
+}
+
+// The line without a carriage return at its end.
+fn without_return(line: &[u8]) -> &[u8]
+    ensures { result.now ≡ strip_carriage_return line.now }
+{
+    if !line.is_empty() && line[line.len() - 1] == b'\r' {
+        &line[..line.len() - 1]
+    } else {
+        line
+    }
+}
+
+fn all_arguments(words: &[&[u8]]) -> bool
+    ensures value { result ≡ list_all (λ w. is_argument w.now) words.now }
+    ensures each { result ≡ true → All (λ w. is_argument w.now ≡ true) words.now }
+{
+    words.iter().all(|word| is_argument(word))
+}
+
+// Whether each word is an argument.
+fn are_arguments(words: &[&[u8]]) -> bool
+    ensures value { result ≡ list_all is_argument (map (λ w. w.now) words.now) }
+    ensures each { result ≡ true → All (λ w. is_argument w.now ≡ true) words.now }
+{
+    all_arguments(words)
+}
+
+// The number of the function of this name.
+fn number_of(module: &Checked, name: &[u8]) -> Option<u32>
+    ensures place { result ≡ place_of module.now name.now }
+    ensures within { IfSome result (λ k. k < length module.now.functions) }
+{
+    // an accepted module has at most 65,536 functions
+    let _accepted = module.module();
+    let place = module.function_at(name)?;
+    let number = place as u32;
+    Some(number)
+}
+
+// The call of the function of this name.
+fn call(
+    alloc: Global,
+    module: &Checked,
+    name: &[u8],
+    arguments: &[&[u8]],
+) -> Result<Option<Call>, LineError>
+    requires { All (λ w. is_argument w.now ≡ true) arguments.now }
+    ensures { Means result (call_at module.now (place_of module.now name.now) (map (λ w. w.now) arguments.now)) }
+{
+    let Some(number) = number_of(module, name) else {
+        return Err(LineError::NoFunction);
+    };
+    let function = &module.module().functions.as_slice()[number as usize];
+    if function.blocks.as_slice().is_empty() {
+        return Err(LineError::NoFunction);
+    }
+    let args = values(alloc, function.params.as_slice(), arguments)?;
+    Ok(Some(Call {
+        function: number,
+        args,
+    }))
+}
+
+/// What the line means for the module: nothing, a call, or a fault.
+#[tactic(auto, unfolding(crate::specs::Meaning::meaning, crate::specs::Form::form_of))]
+pub fn read_line(alloc: Global, module: &Checked, line: &[u8]) -> Result<Option<Call>, LineError>
+    ensures { Means result (meaning module.now line.now) }
+{
+    if is_passed(line) {
+        return Ok(None);
+    }
+    let words = words(alloc, without_return(line))?;
+    let words = words.as_slice();
+    if words.is_empty() {
+        return Err(LineError::BadLine);
+    }
+    let arguments = &words[1..];
+    match name_in(words[0]) {
+        Some(name) => {
+            if are_arguments(arguments) {
+                call(alloc, module, name, arguments)
+            } else {
+                Err(LineError::BadLine)
+            }
+        }
+        None => Err(LineError::BadLine),
+    }
+}
