@@ -7,6 +7,7 @@
 
 mod allowed;
 mod items;
+mod laws;
 mod player;
 mod row_steps;
 mod seat_steps;
@@ -16,6 +17,7 @@ mod sums;
 mod word_steps;
 
 pub use items::Items;
+pub use laws::reached_states_are_cores;
 pub use player::play;
 pub use state::{CoreState, CoreView, Layout, Opening, Walk, opening_state};
 pub use step::{CoreStep, PlayError};

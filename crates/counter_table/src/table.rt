@@ -30,7 +30,7 @@ impl Model for CounterTable {
 }
 
 impl CounterTable {
-    /// A table whose counters are 0, and its first seat, which holds all shares. Needs 1 to 65 shares.
+    /// A table whose counters are 0, and its first seat, which holds all shares. Needs at least one share.
     pub fn new(
         alloc: Global,
         counters: u32,
