@@ -21,7 +21,8 @@ use Rattle.ir_tree.specs.declared.types.Function.{Function}
 use Rattle.ir_tree.specs.declared.types.Module.{Module}
 use Rattle.ir_model.specs.Machine.{Goes, Stops, Ended, shown_first, go_on, run, seen}
 use Rattle.ir_model.specs.State.{Frame, State, Printed, printed, Returns, Traps}
-use Rattle.ir_model.specs.Step.{Step, Deed, Gives, Calls, Fails, computed, at_i64, deed, operator, comparison, value_of, line_of, output_most, acted, prints, prints_first, returned, left, successors, choice, done, done_in, sought, block_named, function_at, step, fails}
+use Rattle.ir_model.specs.Step.{Step, Deed, Gives, Calls, Fails, computed, at_i64, deed, operator, comparison, value_of, line_of, output_most, acted, prints, prints_first, returned, left, choice, done, done_in, sought, block_named, function_at, step, fails}
+use Rattle.ir_tree.specs.Successors.{successors}
 use Rattle.ir_model.specs.Step as semantics
 use Rattle.ir_model.specs.declared.result.TrapKind.TheVariants as trap
 use Rattle.ir_model.proofs.Runs.{seen_first}

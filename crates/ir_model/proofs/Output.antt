@@ -10,7 +10,8 @@ use Rattle.ir_tree.specs.declared.types.Module.{Module}
 use Rattle.ir_model.specs.declared.result.TrapKind.TheVariants as trap
 use Rattle.ir_model.specs.Machine.{Goes, Stops, Ran, Open, Ended, shown_first, shown_of, go_on, run}
 use Rattle.ir_model.specs.State.{Frame, State, Shown, Printed, Entered, Walked, printed, Stop}
-use Rattle.ir_model.specs.Step.{Step, fails, goes_to, past, Deed, Gives, Calls, Fails, deed, Choice, Takes, Leaves, Breaks, choice, successors, line_of, output_most, is_print, prints_first, acted, walked, returned, left, done, done_in, stepped, sought, step}
+use Rattle.ir_model.specs.Step.{Step, fails, goes_to, past, Deed, Gives, Calls, Fails, deed, Choice, Takes, Leaves, Breaks, choice, line_of, output_most, is_print, prints_first, acted, walked, returned, left, done, done_in, stepped, sought, step}
+use Rattle.ir_tree.specs.Successors.{successors}
 use Rattle.ir_model.specs.Run.{entered, begun}
 
 pub printed-append : (xs ys : List Shown) → printed (xs ++ ys) ≡ printed xs ++ printed ys

@@ -5,6 +5,7 @@
 use Rattle.std.specs.Prelude.{ℕ, ◌+◌, ◌==◌, nat_le, List, [], ◌∷◌, ◌++◌, Option, Some, None, Result, Ok, Err, Bool, false, ◌&&◌, if◌then◌else◌, length, map, drop, find, slice_get, option_and_then, codes}
 use Rattle.std.specs.Fmt.{signed_decimal}
 use Rattle.ir_tree.specs.Names.{same}
+use Rattle.ir_tree.specs.Successors.{successors}
 use Rattle.ir_value.specs.Integer.{signed_of}
 use Rattle.ir_value.specs.Operators.{binary_of, compare_of}
 use Rattle.ir_value.specs.declared.operators.ValueOp.{ValueOp}
@@ -107,13 +108,6 @@ pub data Choice : Type 0 where
   Takes : (position : ℕ) → Choice
   Leaves : (value : Option ℕ) → Choice
   Breaks : (kind : TrapKind) → Choice
-
-abbrev pub successors : Term → List (List ℕ)
-successors (Br to) = to ∷ []
-successors (CondBr c first second prof) = first ∷ second ∷ []
-successors (Switch ty v default cases prof) = default ∷ map (λ c. c.1) cases
-successors (Ret v) = []
-successors Unreachable = []
 
 abbrev pub returned_value : Registers → Option (Ty × Operand) → Option ℕ
 returned_value rs None = None

@@ -1,3 +1,4 @@
 pub mod Lending
 pub mod Names
 pub mod formers
+pub mod Successors
