@@ -3,3 +3,4 @@ mod DigitLemmas
 mod ValueLemmas
 mod WalkLemmas
 mod PlaceLemmas
+mod ValidLemmas

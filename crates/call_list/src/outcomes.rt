@@ -115,7 +115,8 @@ fn push_value(out: &mut Vec<u8>, ty: Ty, value: u64) -> Result<(), NoMemory>
     }
 }
 
-fn trap_text(kind: TrapKind) -> &'static [u8]
+/// The text of a trap, such as `div-zero`. Takes no memory.
+pub fn trap_text(kind: TrapKind) -> &'static [u8]
     ensures { result.now ≡ trap_text kind }
 {
     match kind {

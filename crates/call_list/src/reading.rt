@@ -1,5 +1,6 @@
 // Reading a calls text, line by line.
-ghost use Rattle.std.specs.Prelude.{◌≡◌, ◌≤◌, length};
+ghost use Rattle.std.specs.Prelude.{◌≡◌, ◌≤◌, IfOk, length};
+ghost use Rattle.ir_model.specs.Run.{IsValidCallList};
 ghost use Rattle.call_list.specs.Reading.{meanings, Answers, items_of};
 ghost use Rattle.call_list.specs.Walk.{at_line, found_none, walk, Walks};
 
@@ -48,9 +49,10 @@ fn calls_of(alloc: Global, module: &Checked, text: &[u8]) -> Result<Calls, Calls
 
 /// The calls that the text makes, in order. Lines of blanks and lines that begin with `#` are
 /// passed over, and each other line is `@`, the name of a defined function, and an argument for each
-/// of its parameters, parted by blanks.
+/// of its parameters, parted by blanks. The calls that are given are valid for the module.
 pub fn read_calls(alloc: Global, module: &Checked, text: &[u8]) -> Result<Vec<Call>, CallsError>
-    ensures { Answers (length text.now) (meanings module.now text.now) (items_of result) }
+    ensures answers { Answers (length text.now) (meanings module.now text.now) (items_of result) }
+    ensures valid { IfOk result (λ calls. IsValidCallList module.now calls.items) }
 {
     if text.len() > TEXT_MOST {
         return Err(CallsError::TextLimit { length: text.len() });

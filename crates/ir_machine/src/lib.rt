@@ -5,10 +5,10 @@ mod code;
 mod machine;
 mod names;
 mod program;
-mod resolve;
+mod resolving;
 mod run;
 #[cfg(test)]
 mod tests;
 
-pub use program::{Code, resolve_module};
+pub use program::{Code, ResolveError, resolve, resolve_module};
 pub use run::run_call;

@@ -1,14 +1,18 @@
 // The code of a module.
-ghost use Rattle.std.specs.Prelude.{◌≡◌, [], IfOk};
+ghost use Rattle.std.specs.Prelude.{◌≡◌, [], IfOk, IsErrOf};
+ghost use Rattle.ir_check.specs.ModuleKind.{kind_of};
+ghost use Rattle.ir_check.specs.declared.place.Kind.TheVariants as kinds;
 ghost use Rattle.ir_machine.specs.Resolved.{module_code};
 
 use crate::code::FunctionCode;
-use crate::resolve::resolve_functions;
+use crate::resolving::resolve_functions;
+use ir_check::{Checked, Kind};
 use ir_model::Tally;
 use ir_tree::{Module, Seq};
 use pgo_base::NoMemory;
 use std::alloc::Global;
 use std::marker::Model;
+use thiserror::Error;
 
 /// A module that is ready to run: its names are resolved to numbers. Contracts see it as the module.
 #[derive(Drop)]
@@ -48,6 +52,39 @@ impl Code {
     {
         self.functions.as_slice()
     }
+}
+
+/// Why an accepted module has no code.
+#[derive(Clone, Copy, Debug, PartialEq, Eq, Drop, Error)]
+pub enum ResolveError {
+    /// The module still has calls of `llvm.instrprof` intrinsics, which are to be lowered first.
+    #[error("wrong kind")]
+    WrongKind,
+    #[error("out of memory")]
+    NoMemory,
+}
+
+impl From<NoMemory> for ResolveError {
+    ghost use Rattle.ir_machine.specs.declared.program.ResolveError.TheVariants as refusal;
+
+    ghost from_gives = { λ _ e. e ≡ refusal.NoMemory };
+
+    fn from(_: NoMemory) -> ResolveError {
+        ResolveError::NoMemory
+    }
+}
+
+/// The code of an accepted module. `WrongKind` comes exactly where its kind is Counted.
+pub fn resolve(alloc: Global, module: &Checked) -> Result<Code, ResolveError>
+    ensures code { IfOk result (λ code. code ≡ module.now) }
+    ensures kind { IfOk result (λ _. kind_of module.now.functions ≡ kinds.Counted → ⊥) }
+    ensures wrong_kind { IsErrOf result ResolveError.WrongKind → kind_of module.now.functions ≡ kinds.Counted }
+{
+    if module.kind() == Kind::Counted {
+        return Err(ResolveError::WrongKind);
+    }
+    let code = resolve_module(alloc, module.module())?;
+    Ok(code)
 }
 
 /// Resolves the names of a module.

@@ -1,5 +1,5 @@
 use Rattle.ir_machine.proofs.Calls.{function_made}
-use Rattle.ir_machine.proofs.resolve.resolve_function.Goals as goal
+use Rattle.ir_machine.proofs.resolving.resolve_function.Goals as goal
 
 pub returns : goal.returns
 returns c =

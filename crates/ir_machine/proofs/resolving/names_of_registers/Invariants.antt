@@ -1,7 +1,7 @@
 use Rattle.std.proofs.Common.{◌≡◌, ◌++◌, drop}
 use Rattle.std.specs.List.{flat_map}
 use Rattle.ir_machine.specs.Resolved.{results, register_names}
-use Rattle.ir_machine.proofs.resolve.names_of_registers.Given as goal
+use Rattle.ir_machine.proofs.resolving.names_of_registers.Given as goal
 
 abbrev pub invariant-loop-block : goal.invariant-loop-block
 invariant-loop-block l =

@@ -1,6 +1,6 @@
 use Rattle.std.proofs.Common.{◌≡◌, map, take}
 use Rattle.ir_machine.specs.Resolved.{block_code}
-use Rattle.ir_machine.proofs.resolve.resolve_blocks.Given as goal
+use Rattle.ir_machine.proofs.resolving.resolve_blocks.Given as goal
 
 abbrev pub invariant-loop-block : goal.invariant-loop-block
 invariant-loop-block l =

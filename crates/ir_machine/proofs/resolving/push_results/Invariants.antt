@@ -1,6 +1,6 @@
 use Rattle.std.proofs.Common.{◌≡◌, ◌++◌, drop}
 use Rattle.ir_machine.specs.Resolved.{results}
-use Rattle.ir_machine.proofs.resolve.push_results.Given as goal
+use Rattle.ir_machine.proofs.resolving.push_results.Given as goal
 
 abbrev pub invariant-loop-instr : goal.invariant-loop-instr
 invariant-loop-instr l =
