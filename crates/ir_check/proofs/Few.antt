@@ -1,5 +1,5 @@
 -- A module within the limits has so few functions and blocks that their numbers fit a place.
-use Rattle.std.proofs.Common.{◌≡◌, ℕ, zero, suc, ◌+◌, ◌<◌, ◌≤◌, Bool, true, false, cond, ◌==◌, nat_lt, List, [], ◌∷◌, ◌++◌, length, get_or, flat_map, sum_by, refl, sym, ap, ◌∙◌, arith}
+use Rattle.std.proofs.Common.{◌≡◌, ℕ, zero, suc, ◌+◌, ◌<◌, ◌≤◌, Bool, true, false, cond, ◌==◌, nat_lt, List, [], ◌∷◌, ◌++◌, length, get_or, flat_map, sum_by, refl, arith}
 use Rattle.std.proofs.lemmas.Grind.{common_steps}
 use Rattle.std.proofs.lemmas.List.Sums.{sum_by-cons}
 use Rattle.ir_check.specs.Limits.{above, edges, edges_out, passed, reported}
@@ -12,11 +12,11 @@ use Rattle.ir_tree.specs.declared.types.Module.{Module}
 use Rattle.ir_tree.specs.declared.types.Term.{Term}
 use Rattle.ir_tree.specs.declared.types.Term.TheVariants as term
 
-nil_left : {Y : Type 0} (ys zs : List Y) → ys ++ zs ≡ [] → ys ≡ []
+pub nil_left : {Y : Type 0} (ys zs : List Y) → ys ++ zs ≡ [] → ys ≡ []
 nil_left [] zs h = refl
 nil_left (y ∷ ys) zs h = cc
 
-nil_right : {Y : Type 0} (ys zs : List Y) → ys ++ zs ≡ [] → zs ≡ []
+pub nil_right : {Y : Type 0} (ys zs : List Y) → ys ++ zs ≡ [] → zs ≡ []
 nil_right [] zs h = h
 nil_right (y ∷ ys) zs h = cc
 

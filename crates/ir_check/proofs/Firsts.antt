@@ -1,5 +1,5 @@
 -- The first of two lists put together, and of what is asked of a list one item further.
-use Rattle.std.proofs.Common.{◌≡◌, ℕ, suc, ◌+◌, ◌<◌, ◌≤◌, List, [], ◌∷◌, ◌++◌, map, flat_map, length, drop, get_or, Option, None, Some, refl, sym, ap, ◌∙◌, arith, add-one, drop-cons}
+use Rattle.std.proofs.Common.{◌≡◌, ℕ, ◌+◌, ◌<◌, List, [], ◌∷◌, ◌++◌, map, flat_map, length, drop, get_or, Option, None, Some, refl, sym, ap, ◌∙◌, add-one, drop-cons}
 use Rattle.ir_check.specs.Lists.{each, first_of}
 use Rattle.ir_check.proofs.Each.{each_dropped}
 

@@ -1,7 +1,13 @@
+pub mod ArrivalLists
+pub mod Counts
 pub mod Each
+pub mod EdgeLemmas
 pub mod Entries
 pub mod Few
 pub mod Firsts
 pub mod Functions
+pub mod LabelLemmas
+pub mod Matches
+pub mod PhiLists
 pub mod Scopes
 pub mod Types

@@ -2,7 +2,7 @@
 use Rattle.std.proofs.Common.{◌≡◌, ℕ, zero, suc, ◌<◌, List, [], ◌∷◌, map, length, get_or, sym, ap, ◌∙◌, arith}
 use Rattle.std.proofs.lemmas.List.{length-map}
 use Rattle.ir_check.specs.Locals.{known, known_in}
-use Rattle.ir_check.specs.Rules.{Known, Named, place_in, function_breaks}
+use Rattle.ir_check.specs.Rules.{Known, Named, function_breaks}
 use Rattle.ir_check.specs.declared.locals.Scope.{Scope}
 use Rattle.ir_check.specs.declared.rule.Rule.{Rule}
 use Rattle.ir_tree.specs.declared.types.Function.{Function}

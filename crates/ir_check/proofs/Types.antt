@@ -1,5 +1,5 @@
 -- The types of arguments against those of parameters, and names of parameters, one further.
-use Rattle.std.proofs.Common.{◌≡◌, ◌≢◌, ℕ, suc, ◌+◌, ◌<◌, Bool, true, false, ◌&&◌, List, [], ◌∷◌, length, drop, get_or, refl, sym, ap, ◌∙◌, arith, add-one, drop-cons}
+use Rattle.std.proofs.Common.{◌≡◌, ◌≢◌, ℕ, suc, ◌+◌, ◌<◌, Bool, true, false, ◌&&◌, List, [], ◌∷◌, length, drop, get_or, refl, sym, ap, ◌∙◌, add-one, drop-cons}
 use Rattle.ir_check.specs.Rules.{Known, same_ty, same_types, are_params_once, is_param_at}
 use Rattle.ir_tree.specs.declared.types.Operand.{Operand}
 use Rattle.ir_tree.specs.declared.types.Ty.{Ty}

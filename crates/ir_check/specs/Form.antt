@@ -1,5 +1,5 @@
--- The parts of a module that are built: declared `print_i64`, and functions over i64 whose blocks add, compare, print, branch and return.
-use Rattle.std.specs.Prelude.{ℕ, Bool, true, false, not, ◌&&◌, ◌==◌, cond, if◌then◌else◌, List, length, Option, None, Some, is_some, codes}
+-- The parts of a module that are built: declared `print_i64`, and functions over i64 whose blocks have phis, add, compare, print, branch and return.
+use Rattle.std.specs.Prelude.{ℕ, Bool, true, false, not, ◌&&◌, ◌==◌, cond, if◌then◌else◌, List, length, None, Some, is_some, codes}
 use Rattle.std.specs.List.{list_all}
 use Rattle.ir_tree.specs.Names.{same}
 use Rattle.ir_tree.specs.declared.types.BinOp.{BinOp}
@@ -45,6 +45,7 @@ is_plain_add _ flags = false
 abbrev pub is_built_instr : Instr → Bool
 is_built_instr (instr.Binary dest op flags ty left right) = is_plain_add op flags && is_i64 ty && is_number left && is_number right
 is_built_instr (instr.Compare dest pred ty left right) = is_i64 ty && is_number left && is_number right
+is_built_instr (instr.Phi dest ty entries) = is_i64 ty && list_all (λ e. is_number e.0) entries
 is_built_instr (instr.Call dest ret callee args prof) = names_print callee && list_all (λ arg. is_number arg.1) args && not (is_some prof)
 is_built_instr _ = false
 

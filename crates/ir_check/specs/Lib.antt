@@ -1,7 +1,10 @@
 pub mod Accepted
+pub mod Arrivals
+pub mod EdgeEntries
 pub mod Form
 pub mod Limits
 pub mod Lists
 pub mod Locals
 pub mod ModuleKind
+pub mod Phis
 pub mod Rules

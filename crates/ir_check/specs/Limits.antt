@@ -1,5 +1,5 @@
 -- The quantities of a module and their limits.
-use Rattle.std.specs.Prelude.{◌≡◌, ℕ, ◌+◌, Bool, nat_lt, min, if◌then◌else◌, ◌==◌, List, [], ◌∷◌, ◌++◌, length, sum_by, flat_map}
+use Rattle.std.specs.Prelude.{ℕ, ◌+◌, nat_lt, min, if◌then◌else◌, ◌==◌, List, [], ◌∷◌, ◌++◌, length, sum_by, flat_map}
 use Rattle.ir_check.specs.declared.place.LimitKind.{LimitKind}
 use Rattle.ir_check.specs.declared.place.LimitKind.TheVariants.{Functions, Edges, Counters}
 use Rattle.ir_tree.specs.declared.types.Function.{Function}

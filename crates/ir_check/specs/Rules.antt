@@ -1,6 +1,6 @@
 -- The rules, each as the list of the places that break it, in text order.
-use Rattle.std.specs.Prelude.{◌≡◌, ℕ, ◌+◌, ◌<◌, ◌≤◌, get_or, Bool, true, false, not, ◌&&◌, ◌||◌, ◌==◌, nat_le, nat_lt, nat_eq, List, [], ◌∷◌, ◌++◌, length, map, flat_map, position, Option, None, Some, is_some, slice_get}
-use Rattle.std.specs.List.{list_all}
+use Rattle.std.specs.Prelude.{ℕ, ◌+◌, ◌<◌, ◌≤◌, get_or, Bool, true, false, not, ◌&&◌, ◌||◌, ◌==◌, nat_le, nat_lt, List, [], ◌∷◌, ◌++◌, length, map, flat_map, position, Option, None, Some, is_some, slice_get}
+use Rattle.std.specs.List.{list_all, prefix_len}
 use Rattle.std.specs.Option.{option_and_then}
 use denote.Enum.Bare.{sameb}
 use Rattle.ir_check.specs.Lists.{each, only_if}
@@ -17,7 +17,6 @@ use Rattle.ir_tree.specs.declared.types.Block.{Block}
 use Rattle.ir_tree.specs.declared.types.Function.{Function}
 use Rattle.ir_tree.specs.declared.types.Instr.{Instr}
 use Rattle.ir_tree.specs.declared.types.Instr.TheVariants as instr
-use Rattle.ir_tree.specs.declared.types.Module.{Module}
 use Rattle.ir_tree.specs.declared.types.Operand.{Operand}
 use Rattle.ir_tree.specs.declared.types.Operand.TheVariants as operand
 use Rattle.ir_tree.specs.declared.types.Ret.{Ret}
@@ -117,6 +116,7 @@ are_targets known _ = true
 abbrev pub all_operands : (Ty → Operand → Bool) → Instr → Bool
 all_operands test (instr.Binary dest op flags t left right) = test t left && test t right
 all_operands test (instr.Compare dest pred t left right) = test t left && test t right
+all_operands test (instr.Phi dest t entries) = list_all (λ e. test t e.0) entries
 all_operands test (instr.Call dest r callee args prof) = test ty.Ptr callee && list_all (λ arg. test arg.0 arg.1) args
 all_operands test _ = true
 
@@ -186,6 +186,42 @@ abbrev pub is_earlier : Known → ℕ → ℕ → Operand → Bool
 is_earlier known b i (operand.Local name) = stands_earlier b i (known name)
 is_earlier known b i _ = true
 
+-- the block of the label that a name stands for is the one in which the local stands
+abbrev pub is_in_block_of : Option Local → Local → Bool
+is_in_block_of None l = false
+is_in_block_of (Some from) l = is_label from.kind && l.block == from.block
+
+abbrev pub kind_comes_from : Option Local → Local → LocalKind → Bool
+kind_comes_from from l (kind.Param t) = true
+kind_comes_from from l (kind.Result r) = is_in_block_of from l
+kind_comes_from from l kind.Label = false
+
+abbrev pub stands_in : Option Local → Option Local → Bool
+stands_in from None = false
+stands_in from (Some l) = kind_comes_from from l l.kind
+
+abbrev pub value_comes_from : Known → Option Local → Operand → Bool
+value_comes_from known from (operand.Local name) = stands_in from (known name)
+value_comes_from known from _ = true
+
+-- a local value of a phi is a parameter, or a result of the block that its entry names
+abbrev pub comes_from : Known → Operand × List ℕ → Bool
+comes_from known e = value_comes_from known (known e.1) e.0
+
+abbrev pub are_earlier : Known → ℕ → ℕ → Instr → Bool
+are_earlier known b i (instr.Phi dest t entries) = list_all (comes_from known) entries
+are_earlier known b i x = all_operands (λ t v. is_earlier known b i v) x
+
+-- ---- phis
+
+abbrev pub is_phi : Instr → Bool
+is_phi (instr.Phi dest t entries) = true
+is_phi _ = false
+
+-- a phi stands in another block than the first, among the phis at the head of its block; these are `lead` many
+abbrev pub is_placed_well : ℕ → ℕ → ℕ → Instr → Bool
+is_placed_well lead b i x = not (is_phi x) || (not (b == 0) && nat_lt i lead)
+
 -- ---- calls and returns
 
 abbrev pub same_ret : Ret → Ret → Bool
@@ -230,20 +266,22 @@ returns_well r _ = true
 
 -- ---- which items break a rule
 
-unfoldable pub instr_breaks : Rule → Known → Named → List Function → ℕ → ℕ → Instr → Bool
-instr_breaks rule.Names known named functions b i x = not (is_given_name (given x))
-instr_breaks rule.Distinct known named functions b i x = not (is_given_once known b i (given x))
-instr_breaks rule.Targets known named functions b i x = false
-instr_breaks rule.Operands known named functions b i x = not (all_operands (λ t v. exists known named v) x)
-instr_breaks rule.Types known named functions b i x = not (all_operands (fits known) x)
-instr_breaks rule.Calls known named functions b i x = not (calls_well named functions x)
-instr_breaks rule.Returns known named functions b i x = false
-instr_breaks rule.Order known named functions b i x = not (all_operands (λ t v. is_earlier known b i v) x)
+unfoldable pub instr_breaks : Rule → Known → Named → List Function → ℕ → ℕ → ℕ → Instr → Bool
+instr_breaks rule.Names known named functions lead b i x = not (is_given_name (given x))
+instr_breaks rule.Distinct known named functions lead b i x = not (is_given_once known b i (given x))
+instr_breaks rule.Targets known named functions lead b i x = false
+instr_breaks rule.Phis known named functions lead b i x = not (is_placed_well lead b i x)
+instr_breaks rule.Operands known named functions lead b i x = not (all_operands (λ t v. exists known named v) x)
+instr_breaks rule.Types known named functions lead b i x = not (all_operands (fits known) x)
+instr_breaks rule.Calls known named functions lead b i x = not (calls_well named functions x)
+instr_breaks rule.Returns known named functions lead b i x = false
+instr_breaks rule.Order known named functions lead b i x = not (are_earlier known b i x)
 
 unfoldable pub term_breaks : Rule → Known → Named → Ret → ℕ → ℕ → Term → Bool
 term_breaks rule.Names known named r b i t = false
 term_breaks rule.Distinct known named r b i t = false
 term_breaks rule.Targets known named r b i t = not (are_targets known t)
+term_breaks rule.Phis known named r b i t = false
 term_breaks rule.Operands known named r b i t = not (all_in_term (λ u v. exists known named v) t)
 term_breaks rule.Types known named r b i t = not (all_in_term (fits known) t)
 term_breaks rule.Calls known named r b i t = false
@@ -266,7 +304,7 @@ head_breaks _ known named k f = false
 
 -- the items of a block that break a rule, the terminator last; a label is item 0
 unfoldable pub block_breaks : Rule → Known → Named → List Function → Ret → ℕ → Block → List ℕ
-block_breaks rule known named functions r b block = only_if (label_breaks rule known b block.label) 0 ++ (each (λ i x. only_if (instr_breaks rule known named functions b i x) i) 0 block.instrs ++ only_if (term_breaks rule known named r b (length block.instrs) block.term) (length block.instrs))
+block_breaks rule known named functions r b block = only_if (label_breaks rule known b block.label) 0 ++ (each (λ i x. only_if (instr_breaks rule known named functions (prefix_len is_phi block.instrs) b i x) i) 0 block.instrs ++ only_if (term_breaks rule known named r b (length block.instrs) block.term) (length block.instrs))
 
 abbrev pub block_spots : Rule → Known → Named → List Function → Ret → ℕ → Block → List (ℕ × ℕ)
 block_spots rule known named functions r b block = map (λ i. (b, i)) (block_breaks rule known named functions r b block)
@@ -290,6 +328,7 @@ abbrev pub number : Rule → ℕ
 number rule.Names = 1
 number rule.Distinct = 6
 number rule.Targets = 7
+number rule.Phis = 9
 number rule.Operands = 11
 number rule.Types = 12
 number rule.Calls = 13
@@ -299,11 +338,14 @@ number rule.Order = 16
 abbrev pub numbered : List Function → Rule → List (ℕ × Place)
 numbered functions rule = map (λ p. (number rule, p)) (places rule functions)
 
--- the rules in order of number
-abbrev pub in_order : List Rule
-in_order = rule.Names ∷ rule.Distinct ∷ rule.Targets ∷ rule.Operands ∷ rule.Types ∷ rule.Calls ∷ rule.Returns ∷ []
+-- the rules below 10 and above it, in order of number; rule 10 looks at all blocks of a function together
+abbrev pub below_ten : List Rule
+below_ten = rule.Names ∷ rule.Distinct ∷ rule.Targets ∷ rule.Phis ∷ []
 
--- each rule that a module breaks with each place that breaks it
+abbrev pub above_ten : List Rule
+above_ten = rule.Operands ∷ rule.Types ∷ rule.Calls ∷ rule.Returns ∷ []
+
+-- each of the rules that a module breaks with each place that breaks it
 unfoldable pub broken : List Rule → List Function → List (ℕ × Place)
 broken rules functions = flat_map (numbered functions) rules
 

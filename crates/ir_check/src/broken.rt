@@ -12,8 +12,9 @@ use crate::names::{
     is_name,
 };
 use crate::operands::{
-    all_earlier, all_exist, all_fit, earlier_in_term, exist_in_term, fit_in_term,
+    all_exist, all_fit, are_earlier, earlier_in_term, exist_in_term, fit_in_term,
 };
+use crate::phis::{is_placed_well, leading_phis};
 use crate::place::Place;
 use crate::rule::Rule;
 use ir_tree::{Block, Function, Index, Instr, Ret, Term};
@@ -61,8 +62,8 @@ pub(crate) fn first_place_of(
     None
 }
 
-// The place of an item, in the numbers of a report.
-fn placed(k: usize, blocks: &[Block], at: (usize, usize)) -> Place
+/// The place of an item, in the numbers of a report.
+pub(crate) fn placed(k: usize, blocks: &[Block], at: (usize, usize)) -> Place
     requires function { k < 65536 }
     requires few { length blocks.now ≤ 1048576 }
     requires within { at.0 ≤ length blocks.now }
@@ -129,7 +130,8 @@ fn broken_in_block(
         return Some(0);
     }
     let instrs = block.instrs.as_slice();
-    if let Some(i) = broken_in_instrs(rule, names, functions, scope, b, instrs) {
+    let lead = leading_phis(instrs);
+    if let Some(i) = broken_in_instrs(rule, names, functions, scope, lead, b, instrs) {
         return Some(i);
     }
     if term_breaks(rule, names, scope, ret, b, instrs.len(), &block.term) {
@@ -144,13 +146,14 @@ fn broken_in_instrs(
     names: &Index,
     functions: &[Function],
     scope: &Scope,
+    lead: usize,
     b: usize,
     instrs: &[Instr],
 ) -> Option<usize>
-    ensures { result ≡ first_of (each (λ i x. only_if (spec.instr_breaks rule (known scope.now) (first_place names.now) functions.now b i x) i) 0 instrs.now) }
+    ensures { result ≡ first_of (each (λ i x. only_if (spec.instr_breaks rule (known scope.now) (first_place names.now) functions.now lead b i x) i) 0 instrs.now) }
 {
     for (i, instr) in instrs.iter().enumerate() {
-        if instr_breaks(rule, names, functions, scope, b, i, instr) {
+        if instr_breaks(rule, names, functions, scope, lead, b, i, instr) {
             return Some(i);
         }
     }
@@ -204,19 +207,21 @@ fn instr_breaks(
     names: &Index,
     functions: &[Function],
     scope: &Scope,
+    lead: usize,
     b: usize,
     i: usize,
     instr: &Instr,
 ) -> bool
-    ensures { result ≡ spec.instr_breaks rule (known scope.now) (first_place names.now) functions.now b i instr.now }
+    ensures { result ≡ spec.instr_breaks rule (known scope.now) (first_place names.now) functions.now lead b i instr.now }
 {
     match rule {
         Rule::Names => !is_given_name(instr),
         Rule::Distinct => !is_given_once(scope, b, i, instr),
+        Rule::Phis => !is_placed_well(lead, b, i, instr),
         Rule::Operands => !all_exist(scope, names, instr),
         Rule::Types => !all_fit(scope, instr),
         Rule::Calls => !calls_well(names, functions, instr),
-        Rule::Order => !all_earlier(scope, b, i, instr),
+        Rule::Order => !are_earlier(scope, b, i, instr),
         Rule::Targets | Rule::Returns => false,
     }
 }
@@ -239,6 +244,6 @@ fn term_breaks(
         Rule::Types => !fit_in_term(scope, term),
         Rule::Returns => !returns_well(ret, term),
         Rule::Order => !earlier_in_term(scope, b, i, term),
-        Rule::Names | Rule::Distinct | Rule::Calls => false,
+        Rule::Names | Rule::Distinct | Rule::Phis | Rule::Calls => false,
     }
 }

@@ -1,5 +1,5 @@
 // Whether a module has only the parts that are built: `print_i64` may be declared, and functions
-// over i64 are defined, whose blocks add, compare, print, branch and return.
+// over i64 are defined, whose blocks have phis, add, compare, print, branch and return.
 ghost use Rattle.std.specs.Prelude.{◌≡◌};
 ghost use Rattle.std.specs.List.{list_all};
 ghost use Rattle.ir_check.specs.Form as form;
@@ -97,6 +97,7 @@ fn is_built_instr(instr: &Instr) -> bool
             right,
             ..
         } => is_i64(*ty) && is_number(left) && is_number(right),
+        Instr::Phi { ty, entries, .. } => is_i64(*ty) && are_number_entries(entries.as_slice()),
         Instr::Call {
             callee,
             args,
@@ -125,6 +126,12 @@ fn are_numbers(args: &[(Ty, Operand)]) -> bool
     ensures { result ≡ list_all (λ arg. form.is_number arg.1) args.now }
 {
     args.iter().all(|arg| is_number(&arg.1))
+}
+
+fn are_number_entries(entries: &[(Operand, Name)]) -> bool
+    ensures { result ≡ list_all (λ e. form.is_number e.0) entries.now }
+{
+    entries.iter().all(|entry| is_number(&entry.0))
 }
 
 fn is_plain_add(op: BinOp, flags: Flags) -> bool

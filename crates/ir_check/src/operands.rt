@@ -7,7 +7,7 @@ ghost use Rattle.ir_tree.specs.Names.{first_place};
 
 use crate::locals::{Local, LocalKind, Scope};
 use crate::names::is_label;
-use ir_tree::{Index, Instr, Operand, Ret, Term, Ty};
+use ir_tree::{Index, Instr, Name, Operand, Ret, Term, Ty};
 
 pub(crate) fn all_exist(scope: &Scope, names: &Index, instr: &Instr) -> bool
     ensures { result ≡ spec.all_operands (λ t v. spec.exists (known scope.now) (first_place names.now) v) instr.now }
@@ -16,6 +16,7 @@ pub(crate) fn all_exist(scope: &Scope, names: &Index, instr: &Instr) -> bool
         Instr::Binary { left, right, .. } | Instr::Compare { left, right, .. } => {
             exists(scope, names, left) && exists(scope, names, right)
         }
+        Instr::Phi { entries, .. } => entries_exist(scope, names, entries.as_slice()),
         Instr::Call { callee, args, .. } => {
             exists(scope, names, callee) && args_exist(scope, names, args.as_slice())
         }
@@ -27,6 +28,12 @@ fn args_exist(scope: &Scope, names: &Index, args: &[(Ty, Operand)]) -> bool
     ensures { result ≡ list_all (λ arg. spec.exists (known scope.now) (first_place names.now) arg.1) args.now }
 {
     args.iter().all(|arg| exists(scope, names, &arg.1))
+}
+
+fn entries_exist(scope: &Scope, names: &Index, entries: &[(Operand, Name)]) -> bool
+    ensures { result ≡ list_all (λ e. spec.exists (known scope.now) (first_place names.now) e.0) entries.now }
+{
+    entries.iter().all(|entry| exists(scope, names, &entry.0))
 }
 
 pub(crate) fn exist_in_term(scope: &Scope, names: &Index, term: &Term) -> bool
@@ -76,6 +83,7 @@ pub(crate) fn all_fit(scope: &Scope, instr: &Instr) -> bool
             right,
             ..
         } => fits(scope, *ty, left) && fits(scope, *ty, right),
+        Instr::Phi { ty, entries, .. } => entries_fit(scope, *ty, entries.as_slice()),
         Instr::Call { callee, args, .. } => {
             fits(scope, Ty::Ptr, callee) && args_fit(scope, args.as_slice())
         }
@@ -87,6 +95,12 @@ fn args_fit(scope: &Scope, args: &[(Ty, Operand)]) -> bool
     ensures { result ≡ list_all (λ arg. spec.fits (known scope.now) arg.0 arg.1) args.now }
 {
     args.iter().all(|arg| fits(scope, arg.0, &arg.1))
+}
+
+fn entries_fit(scope: &Scope, ty: Ty, entries: &[(Operand, Name)]) -> bool
+    ensures { result ≡ list_all (λ e. spec.fits (known scope.now) ty e.0) entries.now }
+{
+    entries.iter().all(|entry| fits(scope, ty, &entry.0))
 }
 
 pub(crate) fn fit_in_term(scope: &Scope, term: &Term) -> bool
@@ -158,17 +172,57 @@ pub(crate) fn same_ty(a: Ty, b: Ty) -> bool
     a == b
 }
 
-pub(crate) fn all_earlier(scope: &Scope, b: usize, i: usize, instr: &Instr) -> bool
-    ensures { result ≡ spec.all_operands (λ t v. spec.is_earlier (known scope.now) b i v) instr.now }
+pub(crate) fn are_earlier(scope: &Scope, b: usize, i: usize, instr: &Instr) -> bool
+    ensures { result ≡ spec.are_earlier (known scope.now) b i instr.now }
 {
     match instr {
         Instr::Binary { left, right, .. } | Instr::Compare { left, right, .. } => {
             is_earlier(scope, b, i, left) && is_earlier(scope, b, i, right)
         }
+        Instr::Phi { entries, .. } => entries_come(scope, entries.as_slice()),
         Instr::Call { callee, args, .. } => {
             is_earlier(scope, b, i, callee) && args_earlier(scope, b, i, args.as_slice())
         }
         _ => true,
+    }
+}
+
+fn entries_come(scope: &Scope, entries: &[(Operand, Name)]) -> bool
+    ensures { result ≡ list_all (spec.comes_from (known scope.now)) entries.now }
+{
+    entries
+        .iter()
+        .all(|entry| comes_from(scope, &entry.0, &entry.1))
+}
+
+fn comes_from(scope: &Scope, value: &Operand, from: &Name) -> bool
+    ensures { result ≡ spec.comes_from (known scope.now) (value.now, from.now) }
+{
+    match value {
+        Operand::Local(name) => stands_in(scope.find(from.bytes()), scope.find(name.bytes())),
+        _ => true,
+    }
+}
+
+fn stands_in(from: Option<Local>, found: Option<Local>) -> bool
+    ensures { result ≡ spec.stands_in from found }
+{
+    match found {
+        Some(local) => match local.kind {
+            LocalKind::Param(_) => true,
+            LocalKind::Result(_) => is_in_block_of(from, local),
+            LocalKind::Label => false,
+        },
+        None => false,
+    }
+}
+
+fn is_in_block_of(from: Option<Local>, local: Local) -> bool
+    ensures { result ≡ spec.is_in_block_of from local }
+{
+    match from {
+        Some(label) => is_label(label.kind) && local.block == label.block,
+        None => false,
     }
 }
 

@@ -1,4 +1,4 @@
-// The rules that are built, with the numbers by which they are reported.
+// The rules that look at one item at a time, with the numbers by which they are reported.
 ghost use Rattle.std.specs.Prelude.{◌≡◌};
 ghost use Rattle.ir_check.specs.Rules as spec;
 
@@ -11,6 +11,8 @@ pub(crate) enum Rule {
     Distinct,
     /// A terminator names blocks other than the first.
     Targets,
+    /// Phis stand before all other instructions of a block, and none in the first.
+    Phis,
     /// Operands are parameters, results or functions.
     Operands,
     /// Operands have the types of their places.
@@ -19,7 +21,8 @@ pub(crate) enum Rule {
     Calls,
     /// A `ret` has the function's type.
     Returns,
-    /// Local operands are parameters, or stand in their block after what they name.
+    /// Local operands are parameters, or stand in their block after what they name; a value of a
+    /// phi that is a result stands in the block of its entry.
     Order,
 }
 
@@ -31,6 +34,7 @@ impl Rule {
             Rule::Names => 1,
             Rule::Distinct => 6,
             Rule::Targets => 7,
+            Rule::Phis => 9,
             Rule::Operands => 11,
             Rule::Types => 12,
             Rule::Calls => 13,

@@ -2,4 +2,6 @@
 #![tactic(auto)]
 
 #[cfg(test)]
+mod phis;
+#[cfg(test)]
 mod tests;

@@ -2,7 +2,7 @@
 -- tokens. Each production says in its own lines what it reads, and its `Spells` is the relation that they describe.
 --
 -- Spelled today: the declaration of `print_i64`, definitions over `i64` whose blocks all have labels, `add` without
--- flags, `icmp`, the call of `print_i64`, both forms of `br`, and `ret`.
+-- flags, `icmp`, `phi`, the call of `print_i64`, both forms of `br`, and `ret`.
 use Rattle.std.specs.Prelude.{◌≡◌, ℕ, ◌-◌, ◌^◌, ◌%◌, Bool, true, false, cond, not, ◌||◌, List, [], ◌∷◌, Option, Some, None, nat_lt, nat_le, codes}
 use Rattle.std.specs.Option.{option_map, option_and_then}
 use Rattle.ir_lex.specs.Tokens.{Token, Word, Number, Global, Local}
@@ -19,7 +19,7 @@ use Rattle.ir_tree.specs.declared.types.Pred.{Pred}
 use Rattle.ir_tree.specs.declared.types.Pred.TheVariants as predicates
 use Rattle.ir_tree.specs.declared.types.Flags.{Flags}
 use Rattle.ir_tree.specs.declared.types.Instr.{Instr}
-use Rattle.ir_tree.specs.declared.types.Instr.TheVariants.{Binary, Compare, Call}
+use Rattle.ir_tree.specs.declared.types.Instr.TheVariants.{Binary, Compare, Phi, Call}
 use Rattle.ir_tree.specs.declared.types.Term.{Term}
 use Rattle.ir_tree.specs.declared.types.Term.TheVariants as terms
 use Rattle.ir_tree.specs.declared.types.Block.{Block}
@@ -151,9 +151,44 @@ compare dest = do
   (ty, left, right) ← two_operands
   pure (Compare dest pred ty left right)
 
+-- `[ V, %b ]`: the value where the block %b was left
+unfoldable pub entry : Ty → Rule Token (Operand × List ℕ)
+entry ty = do
+  sign 91
+  value ← operand ty
+  sign 44
+  from ← local
+  sign 93
+  pure (value, from)
+
+unfoldable pub next_entry : Ty → Rule Token (Operand × List ℕ)
+next_entry ty = sign 44 >> entry ty
+
+pub next_entry_takes : (ty : Ty) → TakesToken (next_entry ty)
+unfolding next_entry
+next_entry_takes ty = then_takes _ (sign_takes 44)
+
+-- one or more entries, parted by commas
+unfoldable pub entries : Ty → Rule Token (List (Operand × List ℕ))
+entries ty = do
+  first ← entry ty
+  many_after (first ∷ []) (first_is (is_sign 44)) (next_entry ty) (next_entry_takes ty)
+
+-- `phi T [ V, %b ], ..`
+unfoldable pub phi : List ℕ → Rule Token Instr
+phi dest = do
+  word (codes "phi")
+  ty ← value_type
+  list ← entries ty
+  pure (Phi dest ty list)
+
+-- what stands behind `%d =`, where that is no comparison
+unfoldable pub phi_or_binary : List ℕ → Rule Token Instr
+phi_or_binary dest = either (first_is (is_word (codes "phi"))) (phi dest) (binary dest)
+
 -- what stands behind `%d =`
 unfoldable pub operation : List ℕ → Rule Token Instr
-operation dest = either (first_is (is_word (codes "icmp"))) (compare dest) (binary dest)
+operation dest = either (first_is (is_word (codes "icmp"))) (compare dest) (phi_or_binary dest)
 
 -- `%d = ..`
 unfoldable pub assigned : Rule Token Instr

@@ -6,7 +6,7 @@ use Rattle.ir_tree.specs.declared.types.Ret.TheVariants.{Void, Value}
 use Rattle.ir_tree.specs.declared.types.Operand.TheVariants as operands
 use Rattle.ir_tree.specs.declared.types.BinOp.TheVariants as operators
 use Rattle.ir_tree.specs.declared.types.Pred.TheVariants as predicates
-use Rattle.ir_tree.specs.declared.types.Instr.TheVariants.{Binary, Compare, Call}
+use Rattle.ir_tree.specs.declared.types.Instr.TheVariants.{Binary, Compare, Phi, Call}
 use Rattle.ir_tree.specs.declared.types.Term.TheVariants as terms
 use Rattle.ir_tree.specs.declared.types.Block.{Block}
 use Rattle.ir_tree.specs.declared.types.Function.{Function}
@@ -34,7 +34,8 @@ ReadIsSpelled = (ts : Tokens) (m : Module) → ((«module»).read ts ≡ Some (m
 --   call void @print_i64(i64 %a)
 --   br label %high
 -- high:
---   ret i64 %n
+--   %r = phi i64 [ %n, %entry ], [ %a, %low ]
+--   ret i64 %r
 -- }
 
 abbrev pub declare_tokens : Tokens
@@ -57,7 +58,12 @@ low_tokens =
     Word (codes "br") ∷ Word (codes "label") ∷ Local (codes "high") ∷ []
 
 abbrev pub high_tokens : Tokens
-high_tokens = Label (codes "high") ∷ Word (codes "ret") ∷ Word (codes "i64") ∷ Local (codes "n") ∷ Sign 125 ∷ []
+high_tokens =
+    Label (codes "high") ∷
+    Local (codes "r") ∷ Sign 61 ∷ Word (codes "phi") ∷ Word (codes "i64") ∷
+    Sign 91 ∷ Local (codes "n") ∷ Sign 44 ∷ Local (codes "entry") ∷ Sign 93 ∷ Sign 44 ∷
+    Sign 91 ∷ Local (codes "a") ∷ Sign 44 ∷ Local (codes "low") ∷ Sign 93 ∷
+    Word (codes "ret") ∷ Word (codes "i64") ∷ Local (codes "r") ∷ Sign 125 ∷ []
 
 abbrev pub example_tokens : Tokens
 example_tokens = declare_tokens ++ head_tokens ++ entry_tokens ++ low_tokens ++ high_tokens
@@ -82,7 +88,11 @@ low_block = record {
 }
 
 abbrev pub high_block : Block
-high_block = record { label = codes "high"; instrs = []; term = terms.Ret (Some (I64, operands.Local (codes "n"))) }
+high_block = record {
+  label = codes "high";
+  instrs = Phi (codes "r") I64 ((operands.Local (codes "n"), codes "entry") ∷ (operands.Local (codes "a"), codes "low") ∷ []) ∷ [];
+  term = terms.Ret (Some (I64, operands.Local (codes "r")));
+}
 
 abbrev pub g_defined : Function
 g_defined = record { name = codes "g"; ret = Value I64; params = (I64, codes "n") ∷ []; blocks = entry_block ∷ low_block ∷ high_block ∷ []; prof = None }

@@ -2,6 +2,8 @@
 
 ghost use Rattle.std.specs.Prelude.{◌≡◌, [], ◌∷◌, IfOk};
 ghost use Rattle.ir_grammar.specs.Grammar as grammar;
+ghost use Rattle.ir_grammar.specs.Rules.{many_after};
+ghost use Rattle.ir_grammar.specs.Words.{first_is, is_sign};
 ghost use Rattle.ir_read.specs.Reads.{Reads};
 
 use crate::cursor::Cursor;
@@ -134,6 +136,77 @@ fn compare(alloc: Global, toks: &mut Cursor, dest: Name) -> Result<Instr, Stop>
     })
 }
 
+/// A value of a phi, and the block that it comes from.
+#[tactic(auto, unfolding(ir_grammar::specs::Grammar::entry))]
+fn entry(alloc: Global, toks: &mut Cursor, ty: Ty) -> Result<(Operand, Name), Stop>
+    ensures { Reads result toks.old toks.new (grammar.entry ty).read }
+{
+    sign(toks, b'[')?;
+    let value = operand(alloc, toks, ty)?;
+    sign(toks, b',')?;
+    let from = local(alloc, toks)?;
+    sign(toks, b']')?;
+    Ok((value, from))
+}
+
+#[tactic(auto, unfolding(ir_grammar::specs::Grammar::next_entry))]
+fn next_entry(alloc: Global, toks: &mut Cursor, ty: Ty) -> Result<(Operand, Name), Stop>
+    ensures { Reads result toks.old toks.new (grammar.next_entry ty).read }
+{
+    sign(toks, b',')?;
+    entry(alloc, toks, ty)
+}
+
+/// The entries behind those that were found.
+fn more_entries(
+    alloc: Global,
+    toks: &mut Cursor,
+    ty: Ty,
+    mut found: SmallVec<(Operand, Name), 4, Global>,
+) -> Result<Few<(Operand, Name)>, Stop>
+    ensures { Reads result toks.old toks.new (many_after found.items (first_is (is_sign 44)) (grammar.next_entry ty) (grammar.next_entry_takes ty)).read }
+{
+    for _turn in 0..=toks.left() {
+        if !toks.starts_sign(b',') {
+            return Ok(Few::of(found));
+        }
+        found.push(next_entry(alloc, toks, ty)?)?;
+    }
+    Err(Stop::Syntax)
+}
+
+/// One or more entries of a phi.
+#[tactic(auto, unfolding(ir_grammar::specs::Grammar::entries))]
+fn entries(alloc: Global, toks: &mut Cursor, ty: Ty) -> Result<Few<(Operand, Name)>, Stop>
+    ensures { Reads result toks.old toks.new (grammar.entries ty).read }
+{
+    let mut found = SmallVec::new(alloc);
+    found.push(entry(alloc, toks, ty)?)?;
+    more_entries(alloc, toks, ty, found)
+}
+
+/// A phi: its value is that of the entry for the block that was left.
+#[tactic(auto, unfolding(ir_grammar::specs::Grammar::phi))]
+fn phi(alloc: Global, toks: &mut Cursor, dest: Name) -> Result<Instr, Stop>
+    ensures { Reads result toks.old toks.new (grammar.phi dest).read }
+{
+    word(toks, b"phi")?;
+    let ty = value_type(toks)?;
+    let entries = entries(alloc, toks, ty)?;
+    Ok(Instr::Phi { dest, ty, entries })
+}
+
+#[tactic(auto, unfolding(ir_grammar::specs::Grammar::phi_or_binary))]
+fn phi_or_binary(alloc: Global, toks: &mut Cursor, dest: Name) -> Result<Instr, Stop>
+    ensures { Reads result toks.old toks.new (grammar.phi_or_binary dest).read }
+{
+    if toks.starts_word(b"phi") {
+        phi(alloc, toks, dest)
+    } else {
+        binary(alloc, toks, dest)
+    }
+}
+
 /// What stands behind the name of a result.
 #[tactic(auto, unfolding(ir_grammar::specs::Grammar::operation))]
 fn operation(alloc: Global, toks: &mut Cursor, dest: Name) -> Result<Instr, Stop>
@@ -142,7 +215,7 @@ fn operation(alloc: Global, toks: &mut Cursor, dest: Name) -> Result<Instr, Stop
     if toks.starts_word(b"icmp") {
         compare(alloc, toks, dest)
     } else {
-        binary(alloc, toks, dest)
+        phi_or_binary(alloc, toks, dest)
     }
 }
 

@@ -1,4 +1,4 @@
-use Rattle.std.proofs.Common.{◌≡◌, List, sym, subst}
+use Rattle.std.proofs.Common.{List, sym, subst}
 use Rattle.ir_check.specs.Limits.{passed}
 use Rattle.ir_check.specs.Rules.{HasFew}
 use Rattle.ir_check.proofs.Few.{has_few}
@@ -6,8 +6,8 @@ use Rattle.ir_check.proofs.Firsts.{first_none}
 use Rattle.ir_tree.specs.declared.types.Function.{Function}
 use Rattle.ir_check.proofs.accept.judge.Goals as goal
 
-pub first_broken-requires-clause-few : goal.first_broken-requires-clause-few
-first_broken-requires-clause-few c = subst (λ (fs : List Function). HasFew fs) (sym c.as_slice-functions.ensures) (has_few c.args.«module».now (first_none (passed c.args.«module».now) (sym c.in-None.ensures)))
+pub first_fault-requires-clause-few : goal.first_fault-requires-clause-few
+first_fault-requires-clause-few c = subst (λ (fs : List Function). HasFew fs) (sym c.as_slice-functions.ensures) (has_few c.args.«module».now (first_none (passed c.args.«module».now) (sym c.in-None.ensures)))
 
 pub first_place_of-requires-clause-few : goal.first_place_of-requires-clause-few
 first_place_of-requires-clause-few c = subst (λ (fs : List Function). HasFew fs) (sym c.as_slice-functions.ensures) (has_few c.args.«module».now (first_none (passed c.args.«module».now) (sym c.in-None.ensures)))

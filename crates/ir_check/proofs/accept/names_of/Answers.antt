@@ -1,4 +1,4 @@
-use Rattle.std.proofs.Common.{◌≡◌, ◌≤◌, length, map, take, arith}
+use Rattle.std.proofs.Common.{map, take, arith}
 use Rattle.ir_check.proofs.Functions.{names_count, names_more}
 use Rattle.ir_check.proofs.accept.names_of.Goals as goal
 

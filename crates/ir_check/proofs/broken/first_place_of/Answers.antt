@@ -1,8 +1,7 @@
-use Rattle.std.proofs.Common.{◌≡◌, ◌<◌, length, Option, Some, None, sym, ap, ◌∙◌, arith}
+use Rattle.std.proofs.Common.{◌≡◌, ◌<◌, length, Some, None, sym, ap, ◌∙◌, arith}
 use Rattle.ir_check.specs.Lists.{each, first_of}
 use Rattle.ir_check.specs.Locals.{known, known_in}
 use Rattle.ir_check.specs.Rules.{function_breaks, place, place_in, places, places_of}
-use Rattle.ir_check.specs.declared.place.Place.{Place}
 use Rattle.ir_tree.specs.Names.{first_place}
 use Rattle.ir_check.proofs.Firsts.{mapped_none, mapped_some, walked_into, walked_over}
 use Rattle.ir_check.proofs.Scopes.{as_many, breaks_same, scope_at}

@@ -1,4 +1,3 @@
-use Rattle.std.proofs.Common.{◌≡◌, ◌++◌}
 use Rattle.ir_check.specs.Locals.{block_locals}
 use Rattle.ir_check.proofs.Each.{appended}
 use Rattle.ir_check.proofs.locals.add_blocks.Goals as goal

@@ -1,5 +1,5 @@
 use Rattle.std.proofs.Common.{◌≡◌, ℕ, List, [], ◌∷◌, ◌++◌, ap, ◌∙◌}
-use Rattle.ir_check.specs.Locals.{Entry, local, param}
+use Rattle.ir_check.specs.Locals.{local, param}
 use Rattle.ir_check.specs.declared.locals.LocalKind.TheVariants.{Param}
 use Rattle.ir_check.proofs.Each.{appended}
 use Rattle.ir_check.proofs.locals.add_params.Goals as goal

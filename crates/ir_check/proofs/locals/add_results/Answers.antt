@@ -1,4 +1,3 @@
-use Rattle.std.proofs.Common.{◌≡◌, ◌++◌}
 use Rattle.ir_check.specs.Locals.{result_at}
 use Rattle.ir_check.proofs.Each.{appended}
 use Rattle.ir_check.proofs.locals.add_results.Goals as goal

@@ -1,4 +1,4 @@
-use Rattle.std.proofs.Common.{◌≡◌, List, take, get_or, ◌++◌, ◌∷◌, [], ◌+◌, subst, sym, ap, ◌∙◌}
+use Rattle.std.proofs.Common.{◌≡◌, List, take, ◌++◌, ◌∷◌, [], ◌+◌, subst, sym, ap, ◌∙◌}
 use Rattle.std.proofs.lemmas.List.{take_more}
 use Rattle.ir_check.specs.Locals.{Entry, IsScope}
 use Rattle.ir_check.proofs.locals.scope_of_entries.Goals as goal

@@ -1,6 +1,6 @@
 use Rattle.std.proofs.Common.{◌≡◌, is_some, true, false, sym, ap, ◌∙◌}
 use Rattle.std.specs.Map.{lookup}
-use Rattle.ir_check.specs.Locals.{known, IsScope}
+use Rattle.ir_check.specs.Locals.{known}
 use Rattle.ir_tree.specs.Names.{same}
 use Rattle.ir_check.proofs.Entries.{lookup-again, lookup-new}
 use Rattle.ir_check.proofs.locals.Scope.add.Goals as goal
