@@ -1,0 +1,5 @@
+pub mod Listed
+pub mod Members
+pub mod Targets
+pub mod Whole
+pub mod Worked

@@ -1,0 +1,5 @@
+pub mod Blocks
+pub mod Edges
+pub mod Examples
+pub mod Graph
+pub mod Nodes
