@@ -12,6 +12,8 @@ use Rattle.ir_tree.specs.declared.types.Module.{Module}
 use Rattle.ir_model.specs.declared.probe.Event.{Event}
 use Rattle.ir_model.specs.declared.result.Call.{Call}
 use Rattle.ir_model.specs.declared.result.CallResult.{CallResult}
+use Rattle.ir_model.specs.declared.result.End.{End}
+use Rattle.ir_model.specs.declared.result.End.TheVariants as end
 use Rattle.ir_model.specs.Machine.{Ran, Open, Ended, shown_first, shown_of, go_on, run, seen}
 use Rattle.ir_model.specs.State.{Frame, State, Shown, Printed, Entered, Walked, arguments, printed, Stop, Returns, Traps}
 use Rattle.ir_model.specs.Step.{function_at, step}
@@ -19,11 +21,12 @@ use Rattle.ir_model.specs.Run.{run_of, result_of, entered, begun, marks, marks_o
 use Rattle.ir_machine.specs.declared.code.BlockCode.{BlockCode}
 use Rattle.ir_machine.specs.declared.code.FunctionCode.{FunctionCode}
 use Rattle.ir_machine.specs.Names.{place_of}
-use Rattle.ir_machine.specs.Resolved.{results, register_names, labels, declares_print, block_code, function_code, module_code}
-use Rattle.ir_machine.specs.Steps.{first_stage, code_step, result_from}
+use Rattle.ir_machine.specs.Resolved.{results, register_names, labels, declares_print, joins_of, block_code, function_code, module_code}
+use Rattle.ir_machine.specs.declared.joins.Join.{Join}
+use Rattle.ir_machine.specs.Steps.{bytes, ways, first_stage, code_step, result_from}
 use Rattle.ir_machine.proofs.Places.{same_self}
 use Rattle.ir_machine.proofs.Registers.{blank, holds_begun}
-use Rattle.ir_machine.proofs.InStep.{Stands, same_runs}
+use Rattle.ir_machine.proofs.InStep.{view, Own, Stands, same_runs, own_run}
 
 abbrev pub function_of : ℕ → List BlockCode → FunctionCode
 function_of registers blocks = record { registers = registers; blocks = blocks }
@@ -34,11 +37,21 @@ fits_length [] (v ∷ vs) h = absurd h
 fits_length (p ∷ ps) [] h = absurd h
 fits_length (p ∷ ps) (v ∷ vs) h = ap suc (fits_length ps vs h.1)
 
--- what is printed of a run is the result
-seen_result : (r : Ran Shown Stop) → result_from [] (seen printed r) ≡ result_of r
-seen_result (Open p) = refl
-seen_result (Ended p (Returns v)) = refl
-seen_result (Ended p (Traps kind)) = refl
+abbrev pub with_end : End → List ℕ → CallResult
+with_end e text = record { printed = text; end = e }
+
+module _ (m : Module) (k : ℕ) (f : Function) where
+  view_bytes : (xs : List Shown) → bytes (view m k f xs) ≡ printed xs
+  view_bytes [] = refl
+  view_bytes (Printed b ∷ xs) = ap (λ l. b ∷ l) (view_bytes xs)
+  view_bytes (Entered j ∷ xs) = view_bytes xs
+  view_bytes (Walked j l p ∷ xs) = view_bytes xs
+
+  -- what is printed of a run is the result
+  seen_result : (r : Ran Shown Stop) → result_from [] (seen (view m k f) r) ≡ result_of r
+  seen_result (Open p) = ap (with_end end.StepsSpent) (view_bytes p)
+  seen_result (Ended p (Returns v)) = ap (with_end (end.Returned v)) (view_bytes p)
+  seen_result (Ended p (Traps kind)) = ap (with_end (end.Trapped kind)) (view_bytes p)
 
 entered_first : (k : ℕ) (r : Ran Shown Stop) → result_of (shown_first (Entered k ∷ []) r) ≡ result_of r
 entered_first k (Open p) = refl
@@ -85,8 +98,35 @@ module _ (m : Module) (k n : ℕ) (vs : List ℕ) (f : Function) (at : function_
   from_blocks (b ∷ bs) e h =
       let s : State = record { frames = start_frame b ∷ []; output = 0 } in
       ap (result_from []) (sym (same_runs m k f at n s (first_stage code vs) (starts b bs e)))
-      ∙ seen_result (run (step m) n s)
+      ∙ seen_result m k f (run (step m) n s)
       ∙ sym (entered_first k (run (step m) n s))
+
+  -- what is shown behind the entry is of this function, and the code shows the same of it
+  abbrev pub Shows : List Shown → Type 0
+  Shows shown =
+      (ran : List Shown) × (shown ≡ Entered k ∷ ran) × (ways (shown_of (run (code_step code.blocks) n (first_stage code vs))) ≡ ways (view m k f ran)) × Own m k f ran
+
+  shown_first_entered : (r : Ran Shown Stop) → shown_of (shown_first (Entered k ∷ []) r) ≡ Entered k ∷ shown_of r
+  shown_first_entered (Open p) = refl
+  shown_first_entered (Ended p e) = refl
+
+  shown_seen : (r : Ran Shown Stop) → shown_of (seen (view m k f) r) ≡ view m k f (shown_of r)
+  shown_seen (Open p) = refl
+  shown_seen (Ended p e) = refl
+
+  shows_blocks : (bs : List Block) → f.blocks ≡ bs → 0 < length bs → Shows (shown_of (go_on (entered k vs f bs) (run (step m) n)))
+  shows_blocks [] e h = absurd (omega arith)
+  shows_blocks (b ∷ bs) e h =
+      let s : State = record { frames = start_frame b ∷ []; output = 0 } in (
+        shown_of (run (step m) n s),
+        shown_first_entered (run (step m) n s),
+        ap (λ r. ways (shown_of r)) (sym (same_runs m k f at n s (first_stage code vs) (starts b bs e))) ∙ ap ways (shown_seen (run (step m) n s)),
+        own_run m k f at n s (first_stage code vs) (starts b bs e),
+      )
+
+  pub shows_function : 0 < length f.blocks → Shows (shown_of (go_on (begun k vs (function_at m k)) (run (step m) n)))
+  shows_function h =
+      subst (λ o. Shows (shown_of (go_on (begun k vs o) (run (step m) n)))) (sym at) (shows_blocks f.blocks refl h)
 
   of_function : 0 < length f.blocks → result_from [] (run (code_step code.blocks) n (first_stage code vs)) ≡ result_of (go_on (begun k vs (function_at m k)) (run (step m) n))
   of_function h =
@@ -140,18 +180,20 @@ told_on_err after none p r (Ok x) = tt
 told_on_err after none p r (Err e) = ([], marks_of r, refl, none p)
 
 -- the code of a function, made of its parts
-pub function_made : (prints : Bool) (f : Function) (names shown registers ls label_list : List (List ℕ)) (bs : List Block) (codes out : List BlockCode) → names ≡ register_names f → shown ≡ names → registers ≡ names → bs ≡ f.blocks → label_list ≡ labels bs → ls ≡ label_list → codes ≡ map (block_code prints registers ls) bs → out ≡ codes → function_of (length shown) out ≡ function_code prints f
-function_made prints f names shown registers ls label_list bs codes out names_are shown_are registers_are blocks_are label_list_is labels_are codes_are out_is =
+pub function_made : (prints : Bool) (f : Function) (names shown registers ls label_list : List (List ℕ)) (joins lent : List (List Join)) (bs : List Block) (codes out : List BlockCode) → names ≡ register_names f → shown ≡ names → registers ≡ names → bs ≡ f.blocks → label_list ≡ labels bs → ls ≡ label_list → joins ≡ joins_of registers bs → lent ≡ joins → codes ≡ map (block_code prints registers ls lent) bs → out ≡ codes → function_of (length shown) out ≡ function_code prints f
+function_made prints f names shown registers ls label_list joins lent bs codes out names_are shown_are registers_are blocks_are label_list_is labels_are joins_are lent_are codes_are out_is =
     let label_names : ls ≡ labels f.blocks = labels_are ∙ label_list_is ∙ ap labels blocks_are in
     let register_list : registers ≡ register_names f = registers_are ∙ names_are in
-    let made : out ≡ map (block_code prints (register_names f) (labels f.blocks)) f.blocks =
-    out_is ∙ codes_are ∙ (λ i. map (block_code prints (register_list i) (label_names i)) (blocks_are i)) in
+    let join_list : lent ≡ joins_of (register_names f) f.blocks =
+    lent_are ∙ joins_are ∙ (λ i. joins_of (register_list i) (blocks_are i)) in
+    let made : out ≡ map (block_code prints (register_names f) (labels f.blocks) (joins_of (register_names f) f.blocks)) f.blocks =
+    out_is ∙ codes_are ∙ (λ i. map (block_code prints (register_list i) (label_names i) (join_list i)) (blocks_are i)) in
     λ i. function_of (length ((shown_are ∙ names_are) i)) (made i)
 
 -- what the code of a valid call's function comes to is the call's result
 pub valid_result : {E : Type 0} (m : Module) (c : Call) (n : ℕ) (codes : List FunctionCode) (code : FunctionCode) (args : List ℕ) (answer : Result CallResult E) → IsValidCall m c → codes ≡ module_code m → code ≡ get_or codes c.function code → args ≡ c.args → IfOk answer (λ r. r ≡ result_from [] (run (code_step code.blocks) n (first_stage code args))) → IfOk answer (λ r. r ≡ result_of (run_of m c n))
-valid_result m c n codes code args (Ok r) valid are is_code args_are h =
-    let found : slice_get codes c.function ≡ Some code =
-    slice_get_read codes (length codes) c.function code refl (call_within m c codes valid are) is_code in
-    call_is m c n codes code r valid are found (h ∙ (λ i. result_from [] (run (code_step code.blocks) n (first_stage code (args_are i)))))
-valid_result m c n codes code args (Err e) valid are is_code args_are h = tt
+valid_result m c n codes made args (Ok r) valid are is_code args_are h =
+    let found : slice_get codes c.function ≡ Some made =
+    slice_get_read codes (length codes) c.function made refl (call_within m c codes valid are) is_code in
+    call_is m c n codes made r valid are found (h ∙ (λ i. result_from [] (run (code_step made.blocks) n (first_stage made (args_are i)))))
+valid_result m c n codes made args (Err e) valid are is_code args_are h = tt

@@ -1,5 +1,13 @@
 pub mod Places
 pub mod Registers
 pub mod InStep
-pub mod Turns
+pub mod Marks
+pub mod Few
+pub mod Moves
+pub mod Mapped
+pub mod Printing
+pub mod Loops
+pub mod Numbers
+pub mod Tracing
 pub mod Calls
+pub mod Traced

@@ -11,7 +11,8 @@ use Rattle.ir_tree.specs.Names.{same, first_place, Indexes}
 use Rattle.ir_tree.specs.declared.index.Index.{Index}
 use Rattle.ir_tree.specs.declared.types.Instr.{Instr}
 use Rattle.ir_tree.specs.declared.types.Block.{Block}
-use Rattle.ir_model.specs.Step.{block_named}
+use Rattle.ir_tree.specs.declared.types.Instr.TheVariants as ir
+use Rattle.ir_model.specs.Step.{block_named, Join, phi_of, phis, front_phis, body, behind_phis}
 use Rattle.ir_machine.specs.Names.{place_of}
 use Rattle.ir_machine.specs.Resolved.{result_name, results, labels}
 
@@ -136,3 +137,54 @@ pub place_found : (index : Index) (names own : List (List ℕ)) (x b : List ℕ)
 place_found index names own x b at len r has same_names same_name at_is len_is r_is =
     r_is ∙ ap (λ (o : Option ℕ). unwrap_or o len) (at_is ∙ has b) ∙ ap (λ k. unwrap_or (position (same b) names) k) len_is
     ∙ position_is names b ∙ (λ i. place_of (same_names i) (same_name i))
+
+block_at_if : (b : Block) (bs : List Block) (l : List ℕ) (p : Bool) → slice_get bs (place_of (labels bs) l) ≡ block_named bs l → slice_get (b ∷ bs) (cond p 0 (suc (place_of (labels bs) l))) ≡ cond p (Some b) (block_named bs l)
+block_at_if b bs l true rec = refl
+block_at_if b bs l false rec = rec
+
+-- a block that is found stands at the place of the label, and has it
+pub block_at : (bs : List Block) (l : List ℕ) → slice_get bs (place_of (labels bs) l) ≡ block_named bs l
+block_at [] l = refl
+block_at (b ∷ bs) l = block_at_if b bs l (same l b.label) (block_at bs l)
+
+named_if : (b c : Block) (l : List ℕ) (o : Option Block) (p : Bool) → same l b.label ≡ p → (o ≡ Some c → l ≡ c.label) → cond p (Some b) o ≡ Some c → l ≡ c.label
+named_if b c l o true s rec e = same_true l b.label s ∙ ap (λ (d : Block). d.label) (let q : b ≡ c = cc in q)
+named_if b c l o false s rec e = rec e
+
+pub named_label : (bs : List Block) (l : List ℕ) (c : Block) → block_named bs l ≡ Some c → l ≡ c.label
+named_label [] l c e = cc
+named_label (b ∷ bs) l c e =
+    named_if b c l (block_named bs l) (same l b.label) refl (named_label bs l c) e
+
+among_behind_phis : (o : Option Join) (i : Instr) (is : List Instr) (x : List ℕ) → (Among (results (body is)) x → Among (results is) x) → Among (results (behind_phis o (i ∷ is) (body is))) x → Among (results (i ∷ is)) x
+among_behind_phis None i is x rec h = h
+among_behind_phis (Some p) i is x rec h = among_option (result_name i) (results is) x (rec h)
+
+-- what stands behind the phis is among all
+pub among_body : (is : List Instr) (x : List ℕ) → Among (results (body is)) x → Among (results is) x
+among_body [] x h = h
+among_body (i ∷ is) x h = among_behind_phis (phi_of i) i is x (among_body is x) h
+
+-- the results of these phis are among the names
+abbrev pub AllAmong : List (List ℕ) → List Join → Type 0
+AllAmong names [] = Unit {0}
+AllAmong names (p ∷ ps) = Among names p.0 × AllAmong names ps
+
+phi_named : (i : Instr) (p : Join) → phi_of i ≡ Some p → result_name i ≡ Some p.0
+phi_named (ir.Phi into ty entries) p e =
+    let q : (into, entries) ≡ p = cc in ap (λ (j : Join). Some j.0) q
+phi_named _ p e = cc
+
+first_among : (i : Instr) (is : List Instr) (p : Join) → phi_of i ≡ Some p → Among (results (i ∷ is)) p.0
+first_among i is p e =
+    let P : Option (List ℕ) → Type 0 = λ o. Among (cons_option o (results is)) p.0 in
+    subst P (sym (phi_named i p e)) (among_head p.0 (results is))
+
+front_among : (names : List (List ℕ)) (i : Instr) (is : List Instr) (o : Option Join) → phi_of i ≡ o → ((x : List ℕ) → Among (results (i ∷ is)) x → Among names x) → AllAmong names (phis is) → AllAmong names (front_phis o (phis is))
+front_among names i is None e up rec = tt
+front_among names i is (Some p) e up rec = (up p.0 (first_among i is p e), rec)
+
+pub phis_among : (names : List (List ℕ)) (is : List Instr) → ((x : List ℕ) → Among (results is) x → Among names x) → AllAmong names (phis is)
+phis_among names [] up = tt
+phis_among names (i ∷ is) up =
+    front_among names i is (phi_of i) refl up (phis_among names is (λ x h. up x (among_option (result_name i) (results is) x h)))

@@ -1,3 +1,5 @@
 pub mod Names
 pub mod Resolved
 pub mod Steps
+pub mod Counts
+pub mod Slots

@@ -1,5 +1,5 @@
 -- The resolved code of a module: registers and blocks go by number.
-use Rattle.std.specs.Prelude.{ℕ, List, ◌++◌, Option, Some, None, Bool, ◌&&◌, if◌then◌else◌, length, map, find, slice_get, codes}
+use Rattle.std.specs.Prelude.{ℕ, List, [], ◌∷◌, ◌++◌, Option, Some, None, Bool, ◌&&◌, if◌then◌else◌, length, map, find, slice_get, unwrap_or, codes}
 use Rattle.std.specs.List.{flat_map, filter_map}
 use Rattle.ir_tree.specs.Names.{same}
 use Rattle.ir_tree.specs.declared.types.Ty.{Ty}
@@ -13,7 +13,8 @@ use Rattle.ir_tree.specs.declared.types.Term.TheVariants.{Br, CondBr, Switch, Re
 use Rattle.ir_tree.specs.declared.types.Block.{Block}
 use Rattle.ir_tree.specs.declared.types.Function.{Function}
 use Rattle.ir_tree.specs.declared.types.Module.{Module}
-use Rattle.ir_model.specs.Step.{operator, comparison, is_without_blocks, function_named}
+use Rattle.ir_model.specs.Step.{operator, comparison, is_without_blocks, function_named, phi_of, phis, body}
+use Rattle.ir_model.specs.Step as semantics
 use Rattle.ir_machine.specs.Names.{place_of}
 use Rattle.ir_machine.specs.declared.code.Input.{Input}
 use Rattle.ir_machine.specs.declared.code.Input.TheVariants.{Number, Register}
@@ -21,6 +22,9 @@ use Rattle.ir_machine.specs.declared.code.Op.{Op}
 use Rattle.ir_machine.specs.declared.code.Op.TheVariants.{Binary, Compare, Print, Fail}
 use Rattle.ir_machine.specs.declared.code.Exit.{Exit}
 use Rattle.ir_machine.specs.declared.code.Exit.TheVariants.{Go, Choose, Return, Stuck}
+use Rattle.ir_machine.specs.declared.code.Move.{Move}
+use Rattle.ir_machine.specs.declared.code.EdgeCode.{EdgeCode}
+use Rattle.ir_machine.specs.declared.joins.Join.{Join}
 use Rattle.ir_machine.specs.declared.code.BlockCode.{BlockCode}
 use Rattle.ir_machine.specs.declared.code.FunctionCode.{FunctionCode}
 
@@ -69,12 +73,47 @@ module _ (registers : List (List ℕ)) where
   returned_input None = None
   returned_input (Some v) = Some (input_of v.1)
 
-  abbrev pub exit_of : List (List ℕ) → Term → Exit
-  exit_of ls (Br to) = Go (place_of ls to)
-  exit_of ls (CondBr c first second prof) = Choose (input_of c) (place_of ls first) (place_of ls second)
-  exit_of ls (Switch ty v default cases prof) = Stuck
-  exit_of ls (Ret v) = Return (returned_input v)
-  exit_of ls Unreachable = Stuck
+  abbrev pub exit_of : Term → Exit
+  exit_of (Br to) = Go
+  exit_of (CondBr c first second prof) = Choose (input_of c)
+  exit_of (Switch ty v default cases prof) = Stuck
+  exit_of (Ret v) = Return (returned_input v)
+  exit_of Unreachable = Stuck
+
+  -- a phi: its register, and the labels and the values of its entries
+  abbrev pub join_of : semantics.Join → Join
+  join_of p = record {
+    into = place_of registers p.0;
+    labels = map (λ e. e.1) p.1;
+    inputs = map (λ e. input_of e.0) p.1;
+  }
+
+  -- the phis of each block
+  abbrev pub joins_of : List Block → List (List Join)
+  joins_of bs = map (λ (b : Block). map join_of (phis b.instrs)) bs
+
+-- what a phi does on an edge from the block of this label: the first entry for the label counts
+abbrev pub move_from : List ℕ → Join → Move
+move_from label j = record {
+  into = j.into;
+  source = unwrap_or (slice_get j.inputs (place_of j.labels label)) (Number 0);
+}
+
+abbrev pub moves_from : List ℕ → Option (List Join) → List Move
+moves_from label None = []
+moves_from label (Some js) = map (move_from label) js
+
+-- the edges out of a block of this label, where the blocks have these labels and phis
+module _ (ls : List (List ℕ)) (joins : List (List Join)) (label : List ℕ) where
+  abbrev pub edge_to : List ℕ → EdgeCode
+  edge_to to = record { block = place_of ls to; moves = moves_from label (slice_get joins (place_of ls to)) }
+
+  abbrev pub edges_of : Term → List EdgeCode
+  edges_of (Br to) = edge_to to ∷ []
+  edges_of (CondBr c first second prof) = edge_to first ∷ edge_to second ∷ []
+  edges_of (Switch ty v default cases prof) = []
+  edges_of (Ret v) = []
+  edges_of Unreachable = []
 
 -- the operation at the one integer type of the language so far
 abbrev pub op_at_i64 : Ty → Op → Op
@@ -102,13 +141,17 @@ module _ (prints : Bool) (registers : List (List ℕ)) where
   op_of (ir.Call into ret callee values prof) = call_op callee values
   op_of _ = Fail
 
-  abbrev pub block_code : List (List ℕ) → Block → BlockCode
-  block_code ls b = record { ops = map op_of b.instrs; exit = exit_of registers ls b.term }
+  abbrev pub block_code : List (List ℕ) → List (List Join) → Block → BlockCode
+  block_code ls joins b = record {
+    ops = map op_of (body b.instrs);
+    exit = exit_of registers b.term;
+    edges = edges_of ls joins b.label b.term;
+  }
 
 abbrev pub function_code : Bool → Function → FunctionCode
 function_code prints f = record {
   registers = length (register_names f);
-  blocks = map (block_code prints (register_names f) (labels f.blocks)) f.blocks;
+  blocks = map (block_code prints (register_names f) (labels f.blocks) (joins_of (register_names f) f.blocks)) f.blocks;
 }
 
 -- the code of these functions of a module, in order

@@ -10,7 +10,7 @@ pub enum Input {
 }
 
 /// An instruction. `into` is the register of its result. `Fail` stands for one that no accepted
-/// module has.
+/// module has. A phi is no operation: it is a move on each edge to its block.
 #[derive(Clone, Copy, Debug)]
 pub enum Op {
     Binary {
@@ -31,29 +31,37 @@ pub enum Op {
     Fail,
 }
 
-/// A terminator. Blocks go by their places in the function. `Stuck` is `unreachable`, or a terminator
-/// that no accepted module has.
+/// A terminator: it takes the first edge of its block, or the first or second by a condition, or it
+/// returns. `Stuck` is `unreachable`, or a terminator that no accepted module has.
 #[derive(Clone, Copy, Debug)]
 pub enum Exit {
-    Go {
-        block: usize,
-    },
-    Choose {
-        cond: Input,
-        first: usize,
-        second: usize,
-    },
-    Return {
-        value: Option<Input>,
-    },
+    Go,
+    Choose { cond: Input },
+    Return { value: Option<Input> },
     Stuck,
 }
 
-/// A block: its operations in order, and how it is left.
+/// A register that takes a value.
+#[derive(Clone, Copy, Debug)]
+pub struct Move {
+    pub into: usize,
+    pub source: Input,
+}
+
+/// An edge: the place of the block that it leads to, and what the phis of that block do on it, one
+/// move each in their order. All are read before one is written.
+#[derive(Debug, Drop)]
+pub struct EdgeCode {
+    pub block: usize,
+    pub moves: Seq<Move>,
+}
+
+/// A block: its operations in order, how it is left, and an edge for each successor position.
 #[derive(Debug, Drop)]
 pub struct BlockCode {
     pub ops: Seq<Op>,
     pub exit: Exit,
+    pub edges: Seq<EdgeCode>,
 }
 
 /// A function: its number of registers, the parameters first, and its blocks. A declared function has

@@ -2,13 +2,21 @@
 #![tactic(auto)]
 
 mod code;
+mod joins;
 mod machine;
 mod names;
+mod operands;
+#[cfg(test)]
+mod phi_tests;
 mod program;
 mod resolving;
 mod run;
+mod slots;
 #[cfg(test)]
 mod tests;
+mod trace;
+mod turns;
 
 pub use program::{Code, ResolveError, resolve, resolve_module};
 pub use run::run_call;
+pub use trace::trace_call;

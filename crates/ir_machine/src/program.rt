@@ -1,11 +1,13 @@
 // The code of a module.
-ghost use Rattle.std.specs.Prelude.{◌≡◌, [], IfOk, IsErrOf};
+ghost use Rattle.std.specs.Prelude.{◌≡◌, ◌<◌, [], IfOk, IsErrOf};
 ghost use Rattle.ir_check.specs.ModuleKind.{kind_of};
 ghost use Rattle.ir_check.specs.declared.place.Kind.TheVariants as kinds;
 ghost use Rattle.ir_machine.specs.Resolved.{module_code};
+ghost use Rattle.ir_machine.specs.Slots.{edges_of_all, first_edge_of, slot_of, HasEdge, all_slots};
 
 use crate::code::FunctionCode;
 use crate::resolving::resolve_functions;
+use crate::slots::{FunctionSlots, Numbering, entry_in, number_functions, slot_in_all};
 use ir_check::{Checked, Kind};
 use ir_model::Tally;
 use ir_tree::{Module, Seq};
@@ -20,12 +22,14 @@ pub struct Code {
     module: Module,
     functions: Seq<FunctionCode>,
     tallies: Seq<Tally>,
+    numbering: Numbering,
 }
 
 impl Model for Code {
-    ghost use Rattle.std.specs.Prelude.{◌≡◌, []};
+    ghost use Rattle.std.specs.Prelude.{◌≡◌, [], length};
     ghost use Rattle.ir_tree.specs.declared.types.Module.{Module};
     ghost use Rattle.ir_machine.specs.Resolved.{module_code};
+    ghost use Rattle.ir_machine.specs.Slots.{all_slots, edges_of_all};
 
     ghost Value = { Module };
 
@@ -35,7 +39,7 @@ impl Model for Code {
 
     ghost view = { λ c. c.module };
 
-    ghost invariant = { λ c. (c.functions ≡ module_code c.module) × (c.tallies ≡ []) };
+    ghost invariant = { λ c. (c.functions ≡ module_code c.module) × (c.tallies ≡ []) × (c.numbering.functions ≡ all_slots 0 c.module.functions) × (c.numbering.total ≡ edges_of_all c.module) };
 }
 
 impl Code {
@@ -44,6 +48,38 @@ impl Code {
         ensures { result.now ≡ [] }
     {
         self.tallies.as_slice()
+    }
+
+    /// How many edges the functions have in all: each its entry and those out of its blocks, one for
+    /// each successor position, or one where a block has no successor.
+    pub fn edge_total(&self) -> u32
+        ensures { result ≡ edges_of_all self.now }
+    {
+        self.numbering.total
+    }
+
+    /// The number of edges of all functions before this one.
+    pub fn first_edge(&self, function: u32) -> u32
+        ensures { result ≡ first_edge_of self.now function }
+    {
+        entry_in(self.slots(), function as usize, self.edge_total())
+    }
+
+    /// The number of an edge among those of all functions: the entry of a function, or the edge out of
+    /// the block at this place by the successor at this position.
+    pub fn slot(&self, function: u32, block: Option<u32>, position: u32) -> usize
+        requires edge { HasEdge self.now function block position }
+        ensures place { result ≡ slot_of self.now function block position }
+        ensures inside { result < edges_of_all self.now }
+    {
+        slot_in_all(self.slots(), function as usize, block, position)
+    }
+
+    /// The slots of each function, by its number.
+    pub(crate) fn slots(&self) -> &[FunctionSlots]
+        ensures { result.now ≡ all_slots 0 self.now.functions }
+    {
+        self.numbering.functions.as_slice()
     }
 
     /// The code of each function, by its number.
@@ -87,15 +123,18 @@ pub fn resolve(alloc: Global, module: &Checked) -> Result<Code, ResolveError>
     Ok(code)
 }
 
-/// Resolves the names of a module.
+/// Resolves the names of a module. Where its functions have 2^32 edges or more, which no accepted
+/// module has, the answer is `NoMemory`.
 pub fn resolve_module(alloc: Global, source: &Module) -> Result<Code, NoMemory>
     ensures { IfOk result (λ code. code ≡ source.now) }
 {
     let module = source.copy(alloc)?;
     let functions = resolve_functions(alloc, source.functions.as_slice())?;
+    let numbering = number_functions(alloc, source.functions.as_slice())?;
     Ok(Code {
         module,
         functions: Seq::of(functions),
         tallies: Seq::of(Vec::new(alloc)),
+        numbering,
     })
 }

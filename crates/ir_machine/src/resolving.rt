@@ -3,10 +3,12 @@ ghost use Rattle.std.specs.Prelude.{◌≡◌, ◌++◌, map, find, IfOk, OnOk, 
 ghost use Rattle.std.specs.Option.{option_copied};
 ghost use Rattle.ir_tree.specs.Names.{same};
 ghost use Rattle.ir_model.specs.Step.{operator, comparison, is_without_blocks};
-ghost use Rattle.ir_machine.specs.Resolved.{result_name, results, register_names, labels, input_of, print_op, returned_input, exit_of, op_at_i64, call_op, op_of, block_code, function_code, functions_code};
+ghost use Rattle.ir_machine.specs.Resolved.{result_name, results, register_names, labels, print_op, returned_input, exit_of, op_at_i64, call_op, op_of, block_code, function_code, functions_code};
 
 use crate::code::{BlockCode, Exit, FunctionCode, Input, Op};
+use crate::joins::{Join, behind_phis, edges, joins_of_blocks};
 use crate::names::Names;
+use crate::operands::input;
 use ir_tree::{BinOp, Block, Function, Instr, Name, Operand, Pred, Seq, Term, Ty};
 use ir_value::{ValueOp, ValuePred};
 use pgo_base::NoMemory;
@@ -46,17 +48,6 @@ fn value_pred(pred: Pred) -> ValuePred
         Pred::Sge => ValuePred::Sge,
         Pred::Slt => ValuePred::Slt,
         Pred::Sle => ValuePred::Sle,
-    }
-}
-
-fn input(registers: &Names, operand: &Operand) -> Input
-    ensures { result ≡ input_of registers.now operand.now }
-{
-    match operand {
-        Operand::Int(value) => Input::Number(*value),
-        Operand::Null => Input::Number(0),
-        Operand::Local(name) => Input::Register(registers.place(name)),
-        Operand::Global(_) => Input::Number(0),
     }
 }
 
@@ -160,17 +151,13 @@ fn returned(registers: &Names, value: &Option<(Ty, Operand)>) -> Option<Input>
     }
 }
 
-fn exit(registers: &Names, labels: &Names, term: &Term) -> Exit
-    ensures { result ≡ exit_of registers.now labels.now term.now }
+fn exit(registers: &Names, term: &Term) -> Exit
+    ensures { result ≡ exit_of registers.now term.now }
 {
     match term {
-        Term::Br { to } => Exit::Go {
-            block: labels.place(to),
-        },
-        Term::CondBr { cond, yes, no, .. } => Exit::Choose {
+        Term::Br { .. } => Exit::Go,
+        Term::CondBr { cond, .. } => Exit::Choose {
             cond: input(registers, cond),
-            first: labels.place(yes),
-            second: labels.place(no),
         },
         Term::Switch { .. } => Exit::Stuck,
         Term::Ret { value } => Exit::Return {
@@ -180,23 +167,43 @@ fn exit(registers: &Names, labels: &Names, term: &Term) -> Exit
     }
 }
 
+/// The operations of instructions.
+fn ops(
+    alloc: Global,
+    prints: bool,
+    registers: &Names,
+    instrs: &[Instr],
+) -> Result<Vec<Op>, NoMemory>
+    ensures { IfOk result (λ ops. ops.items ≡ map (op_of prints registers.now) instrs.now) }
+{
+    let mut ops = Vec::with_capacity(alloc, instrs.len())?;
+    for instr in instrs {
+        ops.push(op(prints, registers, instr))?;
+    }
+    Ok(ops)
+}
+
 fn resolve_block(
     alloc: Global,
     prints: bool,
     registers: &Names,
     labels: &Names,
+    joins: &[Seq<Join>],
     block: &Block,
 ) -> Result<BlockCode, NoMemory>
-    ensures { IfOk result (λ b. b ≡ block_code prints registers.now labels.now block.now) }
+    ensures { IfOk result (λ b. b ≡ block_code prints registers.now labels.now joins.now block.now) }
 {
-    let instrs = block.instrs.as_slice();
-    let mut ops = Vec::with_capacity(alloc, instrs.len())?;
-    for instr in instrs {
-        ops.push(op(prints, registers, instr))?;
-    }
+    let ops = ops(
+        alloc,
+        prints,
+        registers,
+        behind_phis(block.instrs.as_slice()),
+    )?;
+    let edges = edges(alloc, labels, joins, &block.label, &block.term)?;
     Ok(BlockCode {
         ops: Seq::of(ops),
-        exit: exit(registers, labels, &block.term),
+        exit: exit(registers, &block.term),
+        edges: Seq::of(edges),
     })
 }
 
@@ -265,13 +272,14 @@ fn resolve_blocks(
     prints: bool,
     registers: &Names,
     labels: &Names,
+    joins: &[Seq<Join>],
     blocks: &[Block],
 ) -> Result<Vec<BlockCode>, NoMemory>
-    ensures { IfOk result (λ codes. codes.items ≡ map (block_code prints registers.now labels.now) blocks.now) }
+    ensures { IfOk result (λ codes. codes.items ≡ map (block_code prints registers.now labels.now joins.now) blocks.now) }
 {
     let mut codes = Vec::with_capacity(alloc, blocks.len())?;
     for block in blocks {
-        codes.push(resolve_block(alloc, prints, registers, labels, block)?)?;
+        codes.push(resolve_block(alloc, prints, registers, labels, joins, block)?)?;
     }
     Ok(codes)
 }
@@ -288,7 +296,8 @@ fn resolve_function(
     let registers = Names::of(alloc, names)?;
     let blocks = function.blocks.as_slice();
     let labels = Names::of(alloc, names_of_blocks(alloc, blocks)?)?;
-    let codes = resolve_blocks(alloc, prints, &registers, &labels, blocks)?;
+    let joins = joins_of_blocks(alloc, &registers, blocks)?;
+    let codes = resolve_blocks(alloc, prints, &registers, &labels, joins.as_slice(), blocks)?;
     Ok(FunctionCode {
         registers: count,
         blocks: Seq::of(codes),

@@ -3,15 +3,31 @@ ghost use Rattle.std.specs.Prelude.{◌≡◌, List, [], ◌++◌, IfOk, OnErr, 
 ghost use Rattle.ir_model.specs.declared.probe.Event.{Event};
 ghost use Rattle.ir_model.specs.Machine.{run};
 ghost use Rattle.ir_model.specs.Run.{run_of, result_of, marks_of, IsValidCall};
-ghost use Rattle.ir_machine.specs.Steps.{first_stage, code_step, result_from};
+ghost use Rattle.ir_machine.specs.Steps.{stage_of, first_stage, code_step, result_from};
 
 use crate::code::FunctionCode;
-use crate::machine::{Machine, run_on};
+use crate::machine::Machine;
 use crate::program::Code;
+use crate::turns::run_on;
 use ir_model::{Call, CallResult, Probe};
 use ir_tree::Seq;
 use pgo_base::NoMemory;
 use std::alloc::Global;
+
+/// The machine at the start of a function.
+pub fn machine_at(alloc: Global, function: &FunctionCode, args: &[u64]) -> Result<Machine, NoMemory>
+    ensures { IfOk result (λ m. (stage_of m ≡ first_stage function.now args.now) × (m.printed.items ≡ [])) }
+{
+    let mut registers = Vec::from_slice(alloc, args)?;
+    registers.resize(function.registers, 0)?;
+    Ok(Machine {
+        block: 0,
+        place: 0,
+        registers,
+        moved: Vec::with_capacity(alloc, function.registers)?,
+        printed: Vec::new(alloc),
+    })
+}
 
 /// Runs a function from its first block.
 fn run_function(
@@ -22,14 +38,7 @@ fn run_function(
 ) -> Result<CallResult, NoMemory>
     ensures { IfOk result (λ r. r ≡ result_from [] (run (code_step function.now.blocks) steps (first_stage function.now args.now))) }
 {
-    let mut registers = Vec::from_slice(alloc, args)?;
-    registers.resize(function.registers, 0)?;
-    let mut machine = Machine {
-        block: 0,
-        place: 0,
-        registers,
-        printed: Vec::new(alloc),
-    };
+    let mut machine = machine_at(alloc, function, args)?;
     let end = run_on(function.blocks.as_slice(), &mut machine, steps)?;
     let Machine { printed, .. } = machine;
     Ok(CallResult {

@@ -13,19 +13,19 @@ use smallvec::SmallVec;
 use std::alloc::Global;
 use std::test::Fail;
 
-fn name(alloc: Global, text: &str) -> Result<Name, NoMemory>
+pub fn name(alloc: Global, text: &str) -> Result<Name, NoMemory>
     ensures { IfOk result (λ n. n ≡ text.now) }
 {
     Name::of(alloc, text.as_bytes())
 }
 
-fn local(alloc: Global, text: &str) -> Result<Operand, NoMemory>
+pub fn local(alloc: Global, text: &str) -> Result<Operand, NoMemory>
     ensures { IfOk result (λ o. o ≡ Local text.now) }
 {
     Ok(Operand::Local(name(alloc, text)?))
 }
 
-fn block(alloc: Global, label: &str, instrs: Vec<Instr>, term: Term) -> Result<Block, NoMemory>
+pub fn block(alloc: Global, label: &str, instrs: Vec<Instr>, term: Term) -> Result<Block, NoMemory>
     ensures { IfOk result (λ b. b ≡ block_of label.now instrs.items term) }
 {
     Ok(Block {
@@ -35,7 +35,7 @@ fn block(alloc: Global, label: &str, instrs: Vec<Instr>, term: Term) -> Result<B
     })
 }
 
-fn returns(alloc: Global, text: &str) -> Result<Term, NoMemory>
+pub fn returns(alloc: Global, text: &str) -> Result<Term, NoMemory>
     ensures { IfOk result (λ t. t ≡ returning text.now) }
 {
     Ok(Term::Ret {
@@ -65,7 +65,7 @@ fn entry(alloc: Global) -> Result<Block, NoMemory>
 }
 
 // call void @print_i64(i64 %TEXT)
-fn print_of(alloc: Global, text: &str) -> Result<Instr, NoMemory>
+pub fn print_of(alloc: Global, text: &str) -> Result<Instr, NoMemory>
     ensures { IfOk result (λ i. i ≡ print_call text.now) }
 {
     let mut args = SmallVec::new(alloc);
@@ -100,7 +100,7 @@ fn low(alloc: Global) -> Result<Block, NoMemory>
     block(alloc, "low", instrs, returns(alloc, "a")?)
 }
 
-fn declared_print(alloc: Global) -> Result<Function, NoMemory>
+pub fn declared_print(alloc: Global) -> Result<Function, NoMemory>
     ensures { IfOk result (λ f. f ≡ print_function) }
 {
     let mut params = Vec::new(alloc);

@@ -1,2 +1,3 @@
 pub mod Runs
 pub mod Output
+pub mod Flow

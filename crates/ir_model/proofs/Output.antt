@@ -10,7 +10,7 @@ use Rattle.ir_tree.specs.declared.types.Module.{Module}
 use Rattle.ir_model.specs.declared.result.TrapKind.TheVariants as trap
 use Rattle.ir_model.specs.Machine.{Goes, Stops, Ran, Open, Ended, shown_first, shown_of, go_on, run}
 use Rattle.ir_model.specs.State.{Frame, State, Shown, Printed, Entered, Walked, printed, Stop}
-use Rattle.ir_model.specs.Step.{Step, fails, goes_to, past, Deed, Gives, Calls, Fails, deed, Choice, Takes, Leaves, Breaks, choice, line_of, output_most, is_print, prints_first, acted, walked, returned, left, done, done_in, stepped, sought, step}
+use Rattle.ir_model.specs.Step.{Step, fails, goes_to, past, Deed, Gives, Calls, Fails, deed, Choice, Takes, Leaves, Breaks, choice, line_of, output_most, is_print, prints_first, acted, walked, returned, left, done, done_in, stepped, sought, body, step}
 use Rattle.ir_tree.specs.Successors.{successors}
 use Rattle.ir_model.specs.Run.{entered, begun}
 
@@ -50,7 +50,7 @@ module _ (m : Module) (fr : Frame) (rest : List Frame) (out : ℕ) (h : out ≤ 
   acted_counts (Calls callee values) = calls_count values (is_print m callee)
   acted_counts (Fails kind) = refl
 
-  walked_counts : (p : ℕ) (o : Option (List ℕ)) → Counts out (walked fr rest out p o)
+  walked_counts : (p : ℕ) (o : Option (List ℕ)) → Counts out (walked m fr rest out p o)
   walked_counts p None = refl
   walked_counts p (Some to) = (omega arith, h)
 
@@ -59,7 +59,7 @@ returned_counts fr [] out v h = refl
 returned_counts fr (caller ∷ rest) out v h = (omega arith, h)
 
 module _ (m : Module) (fr : Frame) (rest : List Frame) (out : ℕ) (h : out ≤ output_most) where
-  left_counts : (ss : List (List ℕ)) (c : Choice) → Counts out (left fr rest out ss c)
+  left_counts : (ss : List (List ℕ)) (c : Choice) → Counts out (left m fr rest out ss c)
   left_counts ss (Takes p) = walked_counts m fr rest out h p (slice_get ss p)
   left_counts ss (Leaves v) = returned_counts fr rest out v h
   left_counts ss (Breaks kind) = refl
@@ -70,7 +70,7 @@ module _ (m : Module) (fr : Frame) (rest : List Frame) (out : ℕ) (h : out ≤ 
 
   done_in_counts : (o : Option Block) → Counts out (done_in m fr rest out o)
   done_in_counts None = refl
-  done_in_counts (Some b) = done_counts (drop fr.place b.instrs) b.term
+  done_in_counts (Some b) = done_counts (drop fr.place (body b.instrs)) b.term
 
 stepped_counts : (m : Module) (frames : List Frame) (out : ℕ) → out ≤ output_most → Counts out (stepped m frames out)
 stepped_counts m [] out h = refl

@@ -2,4 +2,7 @@ pub mod Machine
 pub mod State
 pub mod Step
 pub mod Run
+pub mod Log
 pub mod Examples
+pub mod PhiExamples
+pub mod LogExamples

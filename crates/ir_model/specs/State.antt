@@ -19,8 +19,8 @@ arguments [] values = []
 arguments (p ∷ ps) [] = []
 arguments (p ∷ ps) (v ∷ vs) = (p.1, v) ∷ arguments ps vs
 
--- A function that runs: its number, the label of its block, how many instructions of the block are done, and its
--- registers. `into` is the register of the caller that takes the result.
+-- A function that runs: its number, the label of its block, how many instructions behind the block's phis are done, and
+-- its registers. `into` is the register of the caller that takes the result.
 pub record Frame : Type 0 where
   pub function : ℕ
   pub block : List ℕ

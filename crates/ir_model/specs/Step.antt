@@ -1,7 +1,8 @@
 -- What an instruction and a terminator mean, and the step of a module.
 --
 -- A module that the checker accepts has the instructions and operands named here alone, its labels and functions are
--- found, and its calls print. Where another module has something else, the step traps as `unreachable`.
+-- found, its calls print, and its phis stand in front of their blocks and have an entry for each predecessor. Where
+-- another module has something else, the step traps as `unreachable`; a phi without an entry gives 0.
 use Rattle.std.specs.Prelude.{ℕ, ◌+◌, ◌==◌, nat_le, List, [], ◌∷◌, ◌++◌, Option, Some, None, Result, Ok, Err, Bool, false, ◌&&◌, if◌then◌else◌, length, map, drop, find, slice_get, option_and_then, codes}
 use Rattle.std.specs.Fmt.{signed_decimal}
 use Rattle.ir_tree.specs.Names.{same}
@@ -23,7 +24,7 @@ use Rattle.ir_tree.specs.declared.types.Pred.TheVariants as pred
 use Rattle.ir_tree.specs.declared.types.Operand.{Operand}
 use Rattle.ir_tree.specs.declared.types.Operand.TheVariants.{Int, Null, Local, Global}
 use Rattle.ir_tree.specs.declared.types.Instr.{Instr}
-use Rattle.ir_tree.specs.declared.types.Instr.TheVariants.{Binary, Compare, Call}
+use Rattle.ir_tree.specs.declared.types.Instr.TheVariants.{Binary, Compare, Phi, Call}
 use Rattle.ir_tree.specs.declared.types.Term.{Term}
 use Rattle.ir_tree.specs.declared.types.Term.TheVariants.{Br, CondBr, Switch, Ret, Unreachable}
 use Rattle.ir_tree.specs.declared.types.Block.{Block}
@@ -67,6 +68,49 @@ value_of rs (Int n) = n
 value_of rs Null = 0
 value_of rs (Local x) = held rs x
 value_of rs (Global x) = 0
+
+-- A phi: the register of its result, and for each predecessor's label the value that it takes on the edge from there
+abbrev pub Entries : Type 0
+Entries = List (Operand × List ℕ)
+
+abbrev pub Join : Type 0
+Join = List ℕ × Entries
+
+abbrev pub phi_of : Instr → Option Join
+phi_of (Phi into ty entries) = Some (into, entries)
+phi_of _ = None
+
+-- the phis that stand in front of a list of instructions, and what stands behind them
+abbrev pub front_phis : Option Join → List Join → List Join
+front_phis None later = []
+front_phis (Some p) later = p ∷ later
+
+abbrev pub phis : List Instr → List Join
+phis [] = []
+phis (i ∷ is) = front_phis (phi_of i) (phis is)
+
+abbrev pub behind_phis : Option Join → List Instr → List Instr → List Instr
+behind_phis None here later = here
+behind_phis (Some p) here later = later
+
+abbrev pub body : List Instr → List Instr
+body [] = []
+body (i ∷ is) = behind_phis (phi_of i) (i ∷ is) (body is)
+
+-- the first entry for a label
+abbrev pub first_for : List ℕ → Entries → Option Operand
+first_for l [] = None
+first_for l (e ∷ es) = if same l e.1 then Some e.0 else first_for l es
+
+-- the value that a phi takes, and 0 where it has no entry for the label
+abbrev pub taken : Registers → Option Operand → ℕ
+taken rs None = 0
+taken rs (Some o) = value_of rs o
+
+-- These registers after phis that all read the registers before; of two results of one name the later counts
+abbrev pub with_phis : Registers → List ℕ → List Join → Registers → Registers
+with_phis before from [] rs = rs
+with_phis before from (p ∷ ps) rs = with_phis before from ps ((p.0, taken before (first_for from p.1)) ∷ rs)
 
 -- What an instruction does: it gives a value to a register, calls a function with values, or fails
 pub data Deed : Type 0 where
@@ -160,12 +204,18 @@ fails kind = Stops [] (Traps kind)
 abbrev pub goes_to : List Frame → ℕ → List Shown → Step
 goes_to frames output shown = Goes shown (record { frames = frames; output = output })
 
--- the frame with one more instruction done, at the start of another block, and with one register assigned
+-- the phis of a block, none where it is not found
+abbrev pub phis_in : Option Block → List Join
+phis_in None = []
+phis_in (Some b) = phis b.instrs
+
+-- the frame with one more instruction done, behind the phis of another block, and with one register assigned
 abbrev pub past : Frame → Frame
 past fr = record fr { place = fr.place + 1 }
 
-abbrev pub entering : Frame → List ℕ → Frame
-entering fr l = record fr { block = l; place = 0 }
+abbrev pub entering : Frame → List ℕ → List Join → Frame
+entering fr l ps =
+    record fr { block = l; place = 0; registers = with_phis fr.registers fr.block ps fr.registers }
 
 abbrev pub assigned : Frame → List ℕ → ℕ → Frame
 assigned fr x value = record fr { registers = (x, value) ∷ fr.registers }
@@ -192,10 +242,11 @@ acted m fr rest output (Calls callee values) =
     if is_print m callee then prints_first fr rest output values else fails trap.Unreachable
 acted m fr rest output (Fails kind) = fails kind
 
-abbrev pub walked : Frame → List Frame → ℕ → ℕ → Option (List ℕ) → Step
-walked fr rest output position None = fails trap.Unreachable
-walked fr rest output position (Some to) =
-    goes_to (entering fr to ∷ rest) output (Walked fr.function fr.block position ∷ [])
+-- An edge is walked: the phis of its target are done in the same step
+abbrev pub walked : Module → Frame → List Frame → ℕ → ℕ → Option (List ℕ) → Step
+walked m fr rest output position None = fails trap.Unreachable
+walked m fr rest output position (Some to) =
+    goes_to (entering fr to (phis_in (sought m fr.function to)) ∷ rest) output (Walked fr.function fr.block position ∷ [])
 
 abbrev pub returned : Frame → List Frame → ℕ → Option ℕ → Step
 returned fr [] output value = Stops (Walked fr.function fr.block 0 ∷ []) (Returns value)
@@ -203,19 +254,19 @@ returned fr (caller ∷ rest) output value =
     goes_to (resumed caller fr.into value ∷ rest) output (Walked fr.function fr.block 0 ∷ [])
 
 -- a step by a terminator with these successors
-abbrev pub left : Frame → List Frame → ℕ → List (List ℕ) → Choice → Step
-left fr rest output ss (Takes position) = walked fr rest output position (slice_get ss position)
-left fr rest output ss (Leaves value) = returned fr rest output value
-left fr rest output ss (Breaks kind) = fails kind
+abbrev pub left : Module → Frame → List Frame → ℕ → List (List ℕ) → Choice → Step
+left m fr rest output ss (Takes position) = walked m fr rest output position (slice_get ss position)
+left m fr rest output ss (Leaves value) = returned fr rest output value
+left m fr rest output ss (Breaks kind) = fails kind
 
 -- a step at what is left of a block
 abbrev pub done : Module → Frame → List Frame → ℕ → List Instr → Term → Step
-done m fr rest output [] t = left fr rest output (successors t) (choice fr.registers t)
+done m fr rest output [] t = left m fr rest output (successors t) (choice fr.registers t)
 done m fr rest output (i ∷ is) t = acted m fr rest output (deed fr.registers i)
 
 abbrev pub done_in : Module → Frame → List Frame → ℕ → Option Block → Step
 done_in m fr rest output None = fails trap.Unreachable
-done_in m fr rest output (Some b) = done m fr rest output (drop fr.place b.instrs) b.term
+done_in m fr rest output (Some b) = done m fr rest output (drop fr.place (body b.instrs)) b.term
 
 abbrev pub stepped : Module → List Frame → ℕ → Step
 stepped m [] output = fails trap.Unreachable

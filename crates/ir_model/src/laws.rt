@@ -6,6 +6,7 @@ ghost use Rattle.ir_model.specs.Machine.{Within, shown_of};
 ghost use Rattle.ir_model.specs.State.{printed};
 ghost use Rattle.ir_model.specs.Step.{output_most};
 ghost use Rattle.ir_model.specs.Run.{run_of};
+ghost use Rattle.ir_model.specs.Log.{log_of, IsFlow, HasReturned};
 
 /// A run of more steps goes on from one of fewer: a call that ended stays as it ended, and one that
 /// is open has printed a first part of what it prints.
@@ -16,4 +17,10 @@ pub fn more_steps_go_on()
 /// No call prints more bytes than the limit.
 pub fn output_is_bounded()
     ensures { (m : Module) (c : Call) (n : ℕ) → length (printed (shown_of (run_of m c n))) ≤ output_most }
+{}
+
+/// The walks of a call that returns are a flow: in each function as many walks lead to a block as come
+/// from it, and as many lead into the function as out of it.
+pub fn walks_are_a_flow()
+    ensures { (m : Module) (c : Call) (n : ℕ) → HasReturned (run_of m c n) → IsFlow m (log_of (run_of m c n)) }
 {}

@@ -4,4 +4,4 @@ use Rattle.ir_machine.proofs.resolving.resolve_blocks.Given as goal
 
 abbrev pub invariant-loop-block : goal.invariant-loop-block
 invariant-loop-block l =
-    l.codes.items ≡ map (block_code l.prints l.registers l.labels) (take l.block-index l.blocks)
+    l.codes.items ≡ map (block_code l.prints l.registers l.labels l.joins) (take l.block-index l.blocks)

@@ -1,6 +1,6 @@
 use Rattle.std.proofs.Common.{◌≡◌, map, take}
 use Rattle.ir_machine.specs.Resolved.{op_of}
-use Rattle.ir_machine.proofs.resolving.resolve_block.Given as goal
+use Rattle.ir_machine.proofs.resolving.ops.Given as goal
 
 abbrev pub invariant-loop-instr : goal.invariant-loop-instr
 invariant-loop-instr l = l.ops.items ≡ map (op_of l.prints l.registers) (take l.instr-index l.instrs)
