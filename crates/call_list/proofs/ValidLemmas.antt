@@ -69,7 +69,7 @@ call_fits m k f words None c found is_there e h = absurd (cc)
 call_fits m k f words (Some vs) c found is_there e h =
     let is : record { function = k; args = vs } ≡ c = cc in
     let fits : FitsFunction (function_at m k) vs =
-      subst (λ o. FitsFunction o vs) (sym found) (defined (length f.blocks) is_there, values_fit f.params words vs e) in
+    subst (λ o. FitsFunction o vs) (sym found) (defined (length f.blocks) is_there, values_fit f.params words vs e) in
     subst (IsValidCall m) is fits
 
 found_fits : (m : Module) (k : ℕ) (words : List (List ℕ)) (c : Call) (o : Option Function) → function_at m k ≡ o

@@ -51,8 +51,10 @@ fn push(out: &mut Vec<u8>, bytes: &[u8]) -> Result<(), NoMemory>
     Ok(())
 }
 
+/// Appends a name as the assembly writes it behind `@` or `%`: in quotes where it is not plain (LLVM
+/// Language Reference, "Identifiers").
 #[tactic(auto, unfolding(crate::specs::Outcome::name_text))]
-fn push_name(out: &mut Vec<u8>, name: &[u8]) -> Result<(), NoMemory>
+pub fn push_name(out: &mut Vec<u8>, name: &[u8]) -> Result<(), NoMemory>
     ensures { OnOk result (out.new.items ≡ out.old.items ++ name_text name.now) }
 {
     if is_plain(name) {

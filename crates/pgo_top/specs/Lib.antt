@@ -1,1 +1,5 @@
-pub mod Usage
+pub mod Program
+pub mod Run
+pub mod Plan
+pub mod Says
+pub mod OneJudgement

@@ -1,6 +1,9 @@
 //! The top call: a list of words, files and outputs to a status.
 #![tactic(auto)]
 
+mod plan;
+mod program;
+mod run;
 mod top;
 
 pub use pgo_shell::Status;

@@ -17,4 +17,4 @@ returns-in-Err-clause-answers c = answers_fails (length c.args.text.now) (meanin
 pub returns-else-count-gt-CALLS_MOST-clause-valid : goal.returns-else-count-gt-CALLS_MOST-clause-valid
 returns-else-count-gt-CALLS_MOST-clause-valid c =
     valid_calls c.args.«module».now c.args.text.now (found_in c.in-Ok.field-0).kept
-      (answers_ok (length c.args.text.now) (meanings c.args.«module».now c.args.text.now) (found_in c.in-Ok.field-0) (omega arith) c.in-Ok.ensures (omega arith))
+    (answers_ok (length c.args.text.now) (meanings c.args.«module».now c.args.text.now) (found_in c.in-Ok.field-0) (omega arith) c.in-Ok.ensures (omega arith))
