@@ -1,3 +1,6 @@
 mod RunLemmas
 mod Refusals
 mod PlanLemmas
+mod Graphs
+mod ReportLemmas
+mod ChainLemmas

@@ -1,5 +1,5 @@
 -- A refusal of the code is one of the judgement.
-use Rattle.std.proofs.Common.{◌≡◌, ◌⊎◌, ℕ, List, length, Ok, Err, refl, sym, ap, subst, inl, inr, arith}
+use Rattle.std.proofs.Common.{◌≡◌, ℕ, List, length, Err, refl, sym, ap, subst, arith}
 use Rattle.ir_tree.specs.declared.types.Module.{Module}
 use Rattle.call_list.specs.Reading.{Answers, meanings}
 use Rattle.call_list.specs.declared.error.CallsError.{CallsError}

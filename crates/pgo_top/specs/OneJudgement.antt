@@ -1,19 +1,20 @@
 -- The same texts end a command in one way.
-use Rattle.std.specs.Prelude.{◌≡◌, ◌⊎◌, ℕ, ◌<◌, ◌≤◌, true, false, List, [], ◌∷◌, length, slice_get, Some, Option, Result, Ok, Err, is_ok, refl}
+use Rattle.std.specs.Prelude.{◌≡◌, ◌⊎◌, ℕ, ◌<◌, true, false, List, [], ◌∷◌, length, slice_get, Some, Ok, Err, is_ok}
 use Rattle.std.proofs.Common.{sym, ap, ◌∙◌, subst, inl, inr, arith}
 use Rattle.std.proofs.lemmas.Option.{slice_get_within, get_or_from_slice_get}
 use Rattle.std.proofs.lemmas.List.Elements.{All-get_or}
 use Rattle.ir_tree.specs.declared.types.Module.{Module}
 use Rattle.ir_model.specs.declared.result.Call.{Call}
 use Rattle.ir_read.proofs.Whole.{one_module}
-use Rattle.call_list.specs.Reading.{Answers, Meanings, NoFault, FaultsFirst, meanings}
+use Rattle.call_list.specs.Reading.{Answers, Meanings, NoFault, meanings}
 use Rattle.call_list.specs.declared.line.LineError.{LineError}
 use Rattle.call_list.specs.declared.error.CallsError.{CallsError}
 use Rattle.call_list.specs.declared.error.CallsError.TheVariants as errors
-use Rattle.pgo_shell.specs.Verdict.{Made, Verdict, Refuses, Gives, judgement, judgement_of_halt}
-use Rattle.pgo_top.specs.Program.{IsProgram, OfText, WrongKind, BadCalls, Works, TextsJudge, IsCounted}
+use Rattle.pgo_shell.specs.Verdict.{Made, Verdict, Refuses, judgement, judgement_of_halt}
+use Rattle.pgo_top.specs.Program.{OfText, WrongKind, BadCalls, Works, TextsJudge, IsCounted}
 use Rattle.pgo_top.specs.Run.{RunMakes}
-use Rattle.pgo_top.specs.Plan.{Planned, Runs, plan_judges}
+use Rattle.pgo_top.specs.Chain.{ChainMakes}
+use Rattle.pgo_top.specs.Plan.{Planned, Chains, Runs, plan_judges}
 
 -- a line with a fault is none of lines without faults
 faulted : (xs : Meanings) (place : ℕ) (e : LineError) → NoFault xs → slice_get xs place ≡ Some (Err e) → ⊥
@@ -72,8 +73,15 @@ module _ (Makes : Module → List Call → Made → Type 0) (agree : (m : Module
 run_agrees : (m : Module) (calls : List Call) (a b : Made) → RunMakes m calls a → RunMakes m calls b → a.halted ≡ b.halted
 run_agrees m calls a b p q = ap (λ (made : Made). made.halted) (p ∙ sym q)
 
+chain_agrees : (m : Module) (calls : List Call) (a b : Made) → ChainMakes m calls a → ChainMakes m calls b → a.halted ≡ b.halted
+chain_agrees m calls a b p q = p.halted ∙ sym q.halted
+
 pub one_plan_judgement : (p : Planned) (texts : List (List ℕ)) (v w : Verdict) → plan_judges p texts v → plan_judges p texts w → judgement v ≡ judgement w
 one_plan_judgement (Runs file calls) [] v w h k = absurd h
 one_plan_judgement (Runs file calls) (program ∷ []) v w h k = absurd h
 one_plan_judgement (Runs file calls) (program ∷ list ∷ []) v w h k = by_texts RunMakes run_agrees file calls program list v w h k
 one_plan_judgement (Runs file calls) (program ∷ list ∷ other ∷ texts) v w h k = absurd h
+one_plan_judgement (Chains file calls) [] v w h k = absurd h
+one_plan_judgement (Chains file calls) (program ∷ []) v w h k = absurd h
+one_plan_judgement (Chains file calls) (program ∷ list ∷ []) v w h k = by_texts ChainMakes chain_agrees file calls program list v w h k
+one_plan_judgement (Chains file calls) (program ∷ list ∷ other ∷ texts) v w h k = absurd h

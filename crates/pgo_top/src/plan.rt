@@ -1,9 +1,8 @@
 // The commands with their arguments.
-ghost use Rattle.std.specs.Prelude.{◌≡◌, ◌&&◌, IfOk, IsErrOf, None, Some, codes, nat_eq};
-ghost use Rattle.std.specs.Cmp.Lexicographic.{pointwise};
-ghost use Rattle.pgo_top.specs.Plan.{is_file, plan_value, planned, words_of};
+ghost use Rattle.std.specs.Prelude.{◌≡◌, IfOk, IsErrOf, None, Some};
+ghost use Rattle.pgo_top.specs.Plan.{is_file, plan_value, planned, planned_by, words_of};
 
-use crate::run;
+use crate::{chain, run};
 use pgo_base::Gate;
 use pgo_shell::{Command, Product, Refusal};
 use std::alloc::{AllocError, Global};
@@ -15,6 +14,8 @@ use thiserror::Error;
 pub enum Plan {
     /// Runs the calls of a text on a module, each with 1,000,000 steps, and prints their outcomes.
     Run { module: String, calls: String },
+    /// Runs them likewise, and prints the outcomes and how often each edge was walked.
+    Chain { module: String, calls: String },
 }
 
 /// Why words give no plan: they name no command with its arguments, or there was no memory.
@@ -49,7 +50,10 @@ impl Command for Plan {
     ghost one_judgement = { λ p. one_plan_judgement (plan_value p) };
 
     fn read_name(&self, index: usize) -> Option<&str> {
-        let Plan::Run { module, calls } = self;
+        let (module, calls) = match self {
+            Plan::Run { module, calls } => (module, calls),
+            Plan::Chain { module, calls } => (module, calls),
+        };
         match index {
             0 => Some(module.as_str()),
             1 => Some(calls.as_str()),
@@ -68,16 +72,15 @@ impl Command for Plan {
         texts: &[Vec<u8>],
         _gate: &G,
     ) -> Result<Product, Refusal> {
-        let Plan::Run { module, calls } = self;
-        run::product(alloc, module, calls, &texts[0], &texts[1])
+        match self {
+            Plan::Run { module, calls } => {
+                run::product(alloc, module, calls, &texts[0], &texts[1])
+            }
+            Plan::Chain { module, calls } => {
+                chain::product(alloc, module, calls, &texts[0], &texts[1])
+            }
+        }
     }
-}
-
-// Whether the words are those of `run`: its name and two files.
-fn is_run(command: &str, module: &str, calls: &str) -> bool
-    ensures { result ≡ (pointwise nat_eq command.now (codes "run") && is_file «module».now && is_file calls.now) }
-{
-    command == "run" && is_file(module) && is_file(calls)
 }
 
 // Whether a word names a file: it isn't empty, and one of more than a byte doesn't begin with a hyphen.
@@ -98,10 +101,30 @@ pub fn plan_of(alloc: Global, words: &[String]) -> Result<Plan, WordsError>
     ensures memory { IsErrOf result WordsError.NoMemory → planned (words_of words.now) ≡ None → ⊥ }
 {
     match words {
-        [command, module, calls] if is_run(command, module, calls) => Ok(Plan::Run {
-            module: String::from_str(alloc, module)?,
-            calls: String::from_str(alloc, calls)?,
-        }),
+        [command, module, calls] if is_file(module) && is_file(calls) => {
+            plan_by(alloc, command, module, calls)
+        }
         _ => Err(WordsError::Usage),
     }
+}
+
+// The plan of a command with these two files.
+fn plan_by(alloc: Global, command: &str, module: &str, calls: &str) -> Result<Plan, WordsError>
+    ensures plan { IfOk result (λ p. planned_by command.now «module».now calls.now ≡ Some (plan_value p)) }
+    ensures usage { IsErrOf result WordsError.Usage → planned_by command.now «module».now calls.now ≡ None }
+    ensures memory { IsErrOf result WordsError.NoMemory → planned_by command.now «module».now calls.now ≡ None → ⊥ }
+{
+    if command == "run" {
+        return Ok(Plan::Run {
+            module: String::from_str(alloc, module)?,
+            calls: String::from_str(alloc, calls)?,
+        });
+    }
+    if command == "chain" {
+        return Ok(Plan::Chain {
+            module: String::from_str(alloc, module)?,
+            calls: String::from_str(alloc, calls)?,
+        });
+    }
+    Err(WordsError::Usage)
 }

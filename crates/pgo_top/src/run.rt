@@ -18,7 +18,7 @@ use pgo_shell::{Product, Refusal};
 use std::alloc::Global;
 
 /// The steps that each call is given.
-const STEPS: u64 = 1_000_000;
+pub const STEPS: u64 = 1_000_000;
 
 /// What `run` makes of the module's text and the calls text: the outcomes of the calls, and a halt where one of them did
 /// not return. A module's text that is too long or spells no accepted module is `not built`; then the calls text is read.
@@ -67,8 +67,8 @@ fn run_all(
     })
 }
 
-// What is said of the first call that did not return, after one more call.
-fn first_unreturned(
+/// What is said of the first call that did not return, after one more call.
+pub fn first_unreturned(
     alloc: Global,
     halted: Option<Vec<u8>>,
     number: u32,

@@ -57,7 +57,28 @@ fn run<R: Threads + Sync>(
     calls: &[u8],
     failing: Vec<u64>,
 ) -> Result<Ended, Fail> {
-    let words = words_of(alloc, &["run", "m.ll", "c.txt"])?;
+    perform(rt, alloc, "run", module, calls, failing)
+}
+
+// What `chain m.ll c.txt` ends with.
+fn chain<R: Threads + Sync>(
+    rt: &R,
+    alloc: Global,
+    module: &[u8],
+    calls: &[u8],
+) -> Result<Ended, Fail> {
+    perform(rt, alloc, "chain", module, calls, Vec::new(alloc))
+}
+
+fn perform<R: Threads + Sync>(
+    rt: &R,
+    alloc: Global,
+    command: &str,
+    module: &[u8],
+    calls: &[u8],
+    failing: Vec<u64>,
+) -> Result<Ended, Fail> {
+    let words = words_of(alloc, &[command, "m.ll", "c.txt"])?;
     let mut store = store_of(alloc, module, calls, failing)?;
     let mut out = NeverSink::new(alloc)?;
     let mut err = NeverSink::new(alloc)?;
@@ -76,9 +97,10 @@ fn run<R: Threads + Sync>(
 #[test]
 fn words_without_a_plan_name_the_usage(rt: HostRuntime) -> Result<(), Fail> {
     let alloc = rt.alloc();
-    let lists: [&[&str]; 6] = [
+    let lists: [&[&str]; 7] = [
         &[],
         &["fly"],
+        &["fly", "m.ll", "c.txt"],
         &["run", "m.ll"],
         &["run", "m.ll", "c.txt", "x"],
         &["run", "m.ll", ""],
@@ -248,5 +270,205 @@ fn an_output_that_fails_is_told(rt: HostRuntime) -> Result<(), Fail> {
     );
     assert_eq!(rt; status, Status::Outside);
     assert_eq!(rt; err.bytes(), b"pgo: cannot write output\n".as_slice());
+    Ok(())
+}
+
+// Counts from 0 up to its argument.
+const COUNTING: &[u8] = b"define i64 @f(i64 %n) {
+entry:
+  br label %head
+head:
+  %i = phi i64 [ 0, %entry ], [ %j, %body ]
+  %c = icmp slt i64 %i, %n
+  br i1 %c, label %body, label %done
+body:
+  %k = phi i64 [ %i, %head ]
+  %j = add i64 %k, 1
+  br label %head
+done:
+  %r = phi i64 [ %i, %head ]
+  ret i64 %r
+}
+";
+
+#[test]
+fn chain_counts_the_walks_of_every_edge(rt: HostRuntime) -> Result<(), Fail> {
+    let alloc = rt.alloc();
+    let ended = chain(&rt, alloc, COUNTING, b"@f 3\n")?;
+    assert_eq!(rt; ended.status, Status::Done);
+    assert_eq!(rt;
+        ended.out.bytes(),
+        b"call 0 @f
+returned 3
+function @f solved
+edge 0 - %entry 1
+edge 1 %entry %head 1
+edge 2 %head %body 3
+edge 3 %head %done 1
+edge 4 %body %head 3
+edge 5 %done - 1
+"
+            .as_slice()
+    );
+    assert_eq!(rt; ended.err.bytes(), b"".as_slice());
+    Ok(())
+}
+
+#[test]
+fn chain_adds_the_walks_of_its_calls(rt: HostRuntime) -> Result<(), Fail> {
+    let alloc = rt.alloc();
+    let cases: [(&[u8], &[u8]); 3] = [
+        (
+            b"@f 0\n",
+            b"call 0 @f
+returned 0
+function @f solved
+edge 0 - %entry 1
+edge 1 %entry %head 1
+edge 2 %head %body 0
+edge 3 %head %done 1
+edge 4 %body %head 0
+edge 5 %done - 1
+",
+        ),
+        (
+            b"@f 3\n@f 0\n@f 5\n",
+            b"call 0 @f
+returned 3
+call 1 @f
+returned 0
+call 2 @f
+returned 5
+function @f solved
+edge 0 - %entry 3
+edge 1 %entry %head 3
+edge 2 %head %body 8
+edge 3 %head %done 3
+edge 4 %body %head 8
+edge 5 %done - 3
+",
+        ),
+        (
+            b"",
+            b"function @f solved
+edge 0 - %entry 0
+edge 1 %entry %head 0
+edge 2 %head %body 0
+edge 3 %head %done 0
+edge 4 %body %head 0
+edge 5 %done - 0
+",
+        ),
+    ];
+    for (calls, output) in cases {
+        let ended = chain(&rt, alloc, COUNTING, calls)?;
+        assert_eq!(rt; ended.status, Status::Done);
+        assert_eq!(rt; ended.out.bytes(), output);
+    }
+    Ok(())
+}
+
+#[test]
+fn phis_of_a_block_exchange_their_values(rt: HostRuntime) -> Result<(), Fail> {
+    let alloc = rt.alloc();
+    let module = b"declare void @print_i64(i64)
+define i64 @swap(i64 %x, i64 %y, i64 %n) {
+entry:
+  br label %head
+head:
+  %a = phi i64 [ %x, %entry ], [ %b, %head ]
+  %b = phi i64 [ %y, %entry ], [ %a, %head ]
+  %i = phi i64 [ 1, %entry ], [ %j, %head ]
+  call void @print_i64(i64 %a)
+  %j = add i64 %i, 1
+  %c = icmp sle i64 %j, %n
+  br i1 %c, label %head, label %done
+done:
+  %r = phi i64 [ %b, %head ]
+  ret i64 %r
+}
+";
+    let ended = chain(&rt, alloc, module, b"@swap 1 2 3\n")?;
+    assert_eq!(rt; ended.status, Status::Done);
+    assert_eq!(rt;
+        ended.out.bytes(),
+        b"call 0 @swap
+1
+2
+1
+returned 2
+function @swap solved
+edge 0 - %entry 1
+edge 1 %entry %head 1
+edge 2 %head %head 2
+edge 3 %head %done 1
+edge 4 %done - 1
+"
+            .as_slice()
+    );
+    Ok(())
+}
+
+#[test]
+fn parallel_edges_are_counted_apart_and_lost_blocks_not_at_all(
+    rt: HostRuntime,
+) -> Result<(), Fail> {
+    let alloc = rt.alloc();
+    let module = b"define i64 @both(i64 %n) {
+entry:
+  %c = icmp eq i64 %n, 0
+  br i1 %c, label %out, label %out
+lost:
+  br label %out
+out:
+  ret i64 %n
+}
+define void @never() {
+only:
+  ret void
+}
+";
+    let ended = chain(&rt, alloc, module, b"@both 0\n@both 7\n@both 8\n")?;
+    assert_eq!(rt; ended.status, Status::Done);
+    assert_eq!(rt;
+        ended.out.bytes(),
+        b"call 0 @both
+returned 0
+call 1 @both
+returned 7
+call 2 @both
+returned 8
+function @both solved
+edge 0 - %entry 3
+edge 1 %entry %out 1
+edge 2 %entry %out 2
+edge 3 %out - 3
+function @never solved
+edge 0 - %only 0
+edge 1 %only - 0
+"
+            .as_slice()
+    );
+    Ok(())
+}
+
+#[test]
+fn chain_has_no_report_where_a_call_does_not_return(rt: HostRuntime) -> Result<(), Fail> {
+    let alloc = rt.alloc();
+    let module = b"define void @s() {
+e: br label %a
+a: br label %a
+}
+define void @t() {
+e: ret void
+}
+";
+    let ended = chain(&rt, alloc, module, b"@t\n@s\n@t\n")?;
+    assert_eq!(rt; ended.status, Status::NotReturned);
+    assert_eq!(rt;
+        ended.out.bytes(),
+        b"call 0 @t\nreturned\ncall 1 @s\nsteps spent\ncall 2 @t\nreturned\n".as_slice()
+    );
+    assert_eq!(rt; ended.err.bytes(), b"pgo: call 1 steps spent\n".as_slice());
     Ok(())
 }

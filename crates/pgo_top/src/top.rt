@@ -3,7 +3,8 @@ ghost use Rattle.std.specs.Prelude.{◌≡◌, ℕ, List, None, Some};
 ghost use Rattle.pgo_shell.specs.Ended.{Ended};
 ghost use Rattle.pgo_shell.specs.Promises.{DoneStands, IsStopped, NotReturnedStands, OutsideCause, RefusedStands, StatusComes, StoppedStands};
 ghost use Rattle.pgo_shell.specs.Shell.{Front};
-ghost use Rattle.pgo_top.specs.Plan.{Runs, planned, task_of, usage_line, words_of};
+ghost use Rattle.pgo_top.specs.Plan.{Chains, Runs, planned, task_of, usage_line, words_of};
+ghost use Rattle.pgo_top.specs.Chain.{ChainStands};
 ghost use Rattle.pgo_top.specs.Run.{RunStands};
 
 use crate::plan::{WordsError, plan_of};
@@ -42,6 +43,9 @@ pub fn pgo<R: Threads + Sync, S: Store, O: Sink, E: Sink, G: Gate + Sync>(
     ensures stopped { (plan : _) → planned (words_of words.now) ≡ Some plan → S.tells store.old → O.tells out.old → IsStopped result → StoppedStands (task_of plan) (record { files = S.files store.old; put = O.bytes out.old }) (record { files = S.files store.new; put = O.bytes out.new }) }
     // After a `run` that is `Done`: the outcomes of its calls on the program, all of them returned.
     ensures run { (file calls : List ℕ) → planned (words_of words.now) ≡ Some (Runs file calls) → S.tells store.old → O.tells out.old → result ≡ Status.Done → RunStands file calls (record { files = S.files store.old; put = O.bytes out.old }) (record { files = S.files store.new; put = O.bytes out.new }) }
+    // After a `chain` that is `Done`: these outcomes, and then the report, in which each edge of each defined function has the
+    // number of times that the calls' runs walk it.
+    ensures chain { (file calls : List ℕ) → planned (words_of words.now) ≡ Some (Chains file calls) → S.tells store.old → O.tells out.old → result ≡ Status.Done → ChainStands file calls (record { files = S.files store.old; put = O.bytes out.old }) (record { files = S.files store.new; put = O.bytes out.new }) }
     // `Outside` comes only where a fault rose; where none did, the texts decide which status comes.
     ensures outside { (plan : _) → planned (words_of words.now) ≡ Some plan → OutsideCause (task_of plan) (record { failures = S.failures store.old; count = O.faults out.old }) (record { failures = S.failures store.new; count = O.faults out.new }) result }
     ensures comes { (plan : _) → planned (words_of words.now) ≡ Some plan → S.tells store.old → O.tells out.old → StatusComes (task_of plan) (record { files = S.files store.old; put = O.bytes out.old }) (record { failures = S.failures store.old; count = O.faults out.old }) (record { failures = S.failures store.new; count = O.faults out.new }) result }

@@ -1,4 +1,4 @@
-use Rattle.std.proofs.Common.{◌≡◌, refl, ap, ◌∙◌, inr}
+use Rattle.std.proofs.Common.{refl, ap, ◌∙◌, inr}
 use Rattle.pgo_shell.specs.Product.{made_of}
 use Rattle.pgo_top.specs.Run.{run_made}
 use Rattle.pgo_top.proofs.run.product.Goals as goal

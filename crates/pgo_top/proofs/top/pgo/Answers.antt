@@ -1,10 +1,9 @@
-use Rattle.std.proofs.Common.{◌≡◌, None, Some, refl, ap, inl, Err, Result}
+use Rattle.std.proofs.Common.{refl, inl, Err}
 use Rattle.pgo_shell.specs.Promises.{DoneStands, NotReturnedStands, OutsideCause, StatusComes, StoppedStands}
 use Rattle.pgo_shell.specs.Shell.{Faults, World}
-use Rattle.pgo_shell.specs.declared.stop.Stop.{Stop}
 use Rattle.pgo_shell.specs.declared.stop.Stop.TheVariants as stop
-use Rattle.pgo_top.specs.Plan.{Planned, Runs, plan_value, planned, task_of, words_of}
-use Rattle.pgo_top.proofs.PlanLemmas.{by_plan, run_stands}
+use Rattle.pgo_top.specs.Plan.{Chains, Runs, plan_value, planned, task_of, words_of}
+use Rattle.pgo_top.proofs.PlanLemmas.{by_plan, chain_stands, run_stands}
 use Rattle.pgo_top.proofs.top.pgo.Goals as goal
 
 pub returns-in-Ok-clause-done : goal.returns-in-Ok-clause-done
@@ -33,6 +32,12 @@ returns-in-Ok-clause-run g c file calls is tells shows =
     let old : World = record { files = g.S.Store.files c.args.store.now; put = g.O.Sink.bytes c.args.out.now } in
     let new : World = record { files = g.S.Store.files c.perform.new.store; put = g.O.Sink.bytes c.perform.new.out } in
     run_stands file calls old new c.perform.result (returns-in-Ok-clause-done g c (Runs file calls) is tells shows)
+
+pub returns-in-Ok-clause-chain : goal.returns-in-Ok-clause-chain
+returns-in-Ok-clause-chain g c file calls is tells shows =
+    let old : World = record { files = g.S.Store.files c.args.store.now; put = g.O.Sink.bytes c.args.out.now } in
+    let new : World = record { files = g.S.Store.files c.perform.new.store; put = g.O.Sink.bytes c.perform.new.out } in
+    chain_stands file calls old new c.perform.result (returns-in-Ok-clause-done g c (Chains file calls) is tells shows)
 
 pub returns-in-Ok-clause-outside : goal.returns-in-Ok-clause-outside
 returns-in-Ok-clause-outside g c plan is =
