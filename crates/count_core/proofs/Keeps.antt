@@ -1,5 +1,5 @@
 -- Each step keeps the counters, the tickets and the shares.
-use Rattle.std.proofs.Common.{◌≡◌, ◌≢◌, ℕ, zero, suc, ◌+◌, ◌-◌, ◌%◌, ◌^◌, ◌<◌, ◌≤◌, min, Bool, true, false, List, [], ◌∷◌, ◌++◌, length, set, get_or, sum_by, sym, refl, ap, ◌∙◌, subst, arith, if◌then◌else◌, nat_lt, ltb-true, ltb-false, get_or-set_other, get_or-set_same, length-set, zero-add}
+use Rattle.std.proofs.Common.{◌≡◌, ◌≢◌, ℕ, zero, suc, ◌+◌, ◌%◌, ◌^◌, ◌<◌, ◌≤◌, min, Bool, true, false, List, [], ◌∷◌, ◌++◌, length, set, get_or, sum_by, sym, refl, ap, ◌∙◌, subst, arith, if◌then◌else◌, nat_lt, ltb-true, ltb-false, get_or-set_other, get_or-set_same, length-set, zero-add}
 use Rattle.std.proofs.Math.Nat.{mod-add-mod}
 use Rattle.std.proofs.lemmas.List.{set-get_or}
 use Rattle.std.proofs.lemmas.List.Sums.{sum_by-append, sum_by_push}
@@ -13,13 +13,10 @@ use Rattle.count_core.specs.declared.state.CoreView.{CoreView}
 use Rattle.count_core.specs.declared.state.CoreState.{CoreState}
 use Rattle.count_core.specs.Layout.{ticket_at, word_count}
 use Rattle.count_core.specs.CoreView.{fresh, spent, raised, merged, shares_of, added_to, weight_of}
-use Rattle.count_core.specs.CoreState.{opening, ticket_of, below, IsSound}
-use Rattle.count_core.specs.CoreStep.{moved, having_drawn}
+use Rattle.count_core.specs.CoreState.{core, opening, ticket_of, below, IsSound}
+use Rattle.count_core.specs.CoreStep.{moved, having_drawn, lessened, cut, taking}
 use Rattle.count_core.proofs.Views.{sum_same, sum_up, sum_split, sum_join, each_set, each_push, all_mine}
 use Rattle.count_core.proofs.Lists.{get_or-raised_same, get_or-raised_other, get_or-joined, get_or-zeros, below-next, below-past}
-
-abbrev with : CoreState → List ℕ → List CoreView → CoreState
-with s words views = record { words = words; views = views; layout = s.layout }
 
 -- a list of which one word was written anew with what it was
 pub get_or-rewritten : (xs : List ℕ) (i c : ℕ) → get_or (set xs i (get_or xs i 0)) c 0 ≡ get_or xs c 0
@@ -31,7 +28,7 @@ idle_set views id w has idle = each_set (λ _ u. u.shares ≡ 0 → u ≡ spent)
 
 module _ (all : ℕ) (s : CoreState) (id : ℕ) (v : CoreView) where
   -- neither a counter nor the ticket word changes
-  pub beside : IsSound all s → get_elem? s.views id ≡ some v → 0 < v.shares → (words : List ℕ) (w : CoreView) → length words ≡ length s.words → ((c : ℕ) → c < s.layout.counters → slice_index words c ≡ slice_index s.words c) → slice_index words (ticket_at s.layout) ≡ ticket_of s → w.shares ≡ v.shares → w.added ≡ v.added → w.drawn ≡ v.drawn → IsSound all (with s words (set s.views id w))
+  pub beside : IsSound all s → get_elem? s.views id ≡ some v → 0 < v.shares → (words : List ℕ) (w : CoreView) → length words ≡ length s.words → ((c : ℕ) → c < s.layout.counters → slice_index words c ≡ slice_index s.words c) → slice_index words (ticket_at s.layout) ≡ ticket_of s → w.shares ≡ v.shares → w.added ≡ v.added → w.drawn ≡ v.drawn → IsSound all (core s.layout words (set s.views id w))
   beside h at has words w long counters ticket same_shares same_added same_drawn = record {
     sized = long ∙ h.sized;
     counted = λ c lt. counters c lt ∙ h.counted c lt ∙ ap (λ n. n % 2 ^ 64) (sym (sum_same (added_to c) s.views id v w at (ap (λ l. get_or l c 0) same_added)));
@@ -110,7 +107,7 @@ module _ (all : ℕ) (s : CoreState) (id : ℕ) (v : CoreView) where
           ∙ h.drawn f
           ∙ sym (below-past f (ticket_of s) s.layout.numbers (ltb-false _ _ e))
 
-  pub splits : IsSound all s → get_elem? s.views id ≡ some v → (k : ℕ) → 0 < k → k < v.shares → IsSound all (with s s.words (set s.views id (record v { shares = v.shares - k }) ++ fresh k ∷ []))
+  pub splits : IsSound all s → get_elem? s.views id ≡ some v → (k : ℕ) → 0 < k → k < v.shares → IsSound all (cut s id v k)
   splits h at k some_ less = record {
     sized = h.sized;
     counted = λ c lt. h.counted c lt ∙ ap (λ m. m % 2 ^ 64) (sym (sum_split (added_to c) s.views id v left (fresh k) at (omega arith)));
@@ -121,9 +118,9 @@ module _ (all : ℕ) (s : CoreState) (id : ℕ) (v : CoreView) where
   }
     where
       left : CoreView
-      left = record v { shares = v.shares - k }
+      left = lessened v k
 
-  pub joins : IsSound all s → get_elem? s.views id ≡ some v → 0 < v.shares → (other : ℕ) (u : CoreView) → get_elem? (set s.views id (merged v u)) other ≡ some u → IsSound all (with s s.words (set (set s.views id (merged v u)) other spent))
+  pub joins : IsSound all s → get_elem? s.views id ≡ some v → 0 < v.shares → (other : ℕ) (u : CoreView) → get_elem? (set s.views id (merged v u)) other ≡ some u → IsSound all (taking s id v other u)
   joins h at has other u at_other = record {
     sized = h.sized;
     counted = λ c lt. h.counted c lt ∙ ap (λ m. m % 2 ^ 64) (sym (sum_join (added_to c) s.views id other v u both spent at at_other (let j = get_or-joined v.added u.added c in omega arith)));

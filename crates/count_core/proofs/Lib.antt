@@ -4,6 +4,7 @@ pub mod Places
 pub mod Kept
 pub mod Keeps
 pub mod RowKeeps
+pub mod Alone
 pub mod Steps
 pub mod Ready
 pub mod Reached

@@ -1,7 +1,7 @@
 -- The sums and lists of a view after it added, drew or joined.
-use Rattle.std.proofs.Common.{◌≡◌, ◌≢◌, ℕ, zero, suc, ◌+◌, ◌-◌, ◌<◌, ◌≤◌, min, max, subst, append-nil, zero-add, take, ap₂, List, [], ◌∷◌, ◌++◌, length, set, get_or, replicate, sum_by, sym, refl, ap, ◌∙◌, arith}
-use Rattle.std.proofs.lemmas.List.{get_or_read, take_more, take_all}
-use lib.ListN.{length-append, length-replicate}
+use Rattle.std.proofs.Common.{◌≡◌, ◌≢◌, ℕ, zero, suc, ◌+◌, ◌-◌, ◌<◌, ◌≤◌, min, max, subst, append-nil, zero-add, take, drop, ap₂, List, [], ◌∷◌, ◌++◌, length, set, get_or, replicate, sum_by, sym, refl, ap, ◌∙◌, arith}
+use Rattle.std.proofs.lemmas.List.{take_more, take_all, take-append-le, length-set}
+use Rattle.std.specs.List.{refill}
 use Rattle.std.proofs.lemmas.List.Sums.{sum_by_push}
 use Rattle.count_core.specs.CoreView.{raised, lengthened, joined}
 use Rattle.count_core.specs.CoreState.{below}
@@ -65,12 +65,15 @@ length-raised [] (suc i) k (suc n) le lt = let h = length-raised [] i k n (omega
 length-raised (x ∷ xs) (suc i) k zero le lt = absurd (omega arith)
 length-raised (x ∷ xs) (suc i) k (suc n) le lt = let h = length-raised xs i k n (omega arith) (omega arith) in omega arith
 
-pub raise_is : (xs ys : List ℕ) (i k n y : ℕ) → ys ≡ lengthened xs (i + 1) → y ≡ get_or ys i y → n ≡ k → set ys i (y + n) ≡ raised xs i k
-raise_is xs ys i k n y e read same =
-    let m : ℕ = i + 1 - length xs in
-    let long : i < length ys = omega (arith, ap length e, length-append xs (replicate m 0), length-replicate m zero) in
-    let is : y ≡ get_or ys i 0 = get_or_read ys i y long read 0 in
-    ap₂ (λ (y n : ℕ). set ys i (y + n)) is same ∙ ap (λ (l : List ℕ). set l i (get_or l i 0 + k)) e ∙ set-lengthened xs i k m refl
+-- a list whose elements were changed in place ends as they do
+refill_same : (xs ws : List ℕ) → length ws ≡ length xs → refill (length xs) xs ws ≡ ws
+refill_same xs ws e = take-append-le (length xs) ws (drop (length ws) xs) (omega arith) ∙ take_all (length xs) ws (omega arith)
+
+pub raise_is : (xs ys zs : List ℕ) (i k n : ℕ) → ys ≡ lengthened xs (i + 1) → zs ≡ ys → n ≡ k → refill (length ys) ys (set zs i (get_or zs i 0 + n)) ≡ raised xs i k
+raise_is xs ys zs i k n e same is =
+    refill_same ys (set zs i (get_or zs i 0 + n)) (length-set zs i _ ∙ ap length same)
+    ∙ ap₂ (λ (l : List ℕ) (n : ℕ). set l i (get_or l i 0 + n)) (same ∙ e) is
+    ∙ set-lengthened xs i k (i + 1 - length xs) refl
 
 pub joined_more : (xs ys done : List ℕ) (i n : ℕ) → done ≡ take i (joined xs ys) → i < max (length xs) (length ys) → n ≡ get_or xs i 0 + get_or ys i 0 → done ++ n ∷ [] ≡ take (i + 1) (joined xs ys)
 joined_more xs ys done i n e lt is =

@@ -1,5 +1,5 @@
 -- Each step keeps the rows.
-use Rattle.std.proofs.Common.{◌≡◌, ◌≢◌, ℕ, zero, suc, ◌+◌, ◌-◌, ◌*◌, ◌%◌, ◌^◌, ◌<◌, ◌≤◌, Bool, true, false, List, [], ◌∷◌, ◌++◌, length, set, count_by, sum_by, Option, Some, None, sym, refl, ap, ◌∙◌, subst, arith, get_or-set_other, get_or-set_same, lt_of_lt_of_le}
+use Rattle.std.proofs.Common.{◌≡◌, ◌≢◌, ℕ, zero, suc, ◌+◌, ◌*◌, ◌%◌, ◌^◌, ◌<◌, ◌≤◌, Bool, true, false, List, [], ◌∷◌, ◌++◌, length, set, count_by, sum_by, Option, Some, None, sym, refl, ap, ◌∙◌, subst, arith, get_or-set_other, get_or-set_same, lt_of_lt_of_le}
 use Rattle.std.proofs.Math.Nat.{mod-add-mod}
 use Rattle.std.proofs.lemmas.List.Sums.{sum_by-append}
 use Rattle.std.specs.Prelude.{slice_index}
@@ -13,8 +13,8 @@ use Rattle.count_core.specs.declared.state.CoreView.{CoreView}
 use Rattle.count_core.specs.declared.state.CoreState.{CoreState}
 use Rattle.count_core.specs.Layout.{key_at, count_at, dropped_at, word_count}
 use Rattle.count_core.specs.CoreView.{fresh, spent, merged, is_at, asks, one_if, walk_with, wants, is_kept, is_missed, misses}
-use Rattle.count_core.specs.CoreState.{opening, key_of, count_of, dropped_of, IsSite, IsOnWay, HasRows}
-use Rattle.count_core.specs.CoreStep.{moved, walking_on, having_asked}
+use Rattle.count_core.specs.CoreState.{core, opening, key_of, count_of, dropped_of, IsSite, IsOnWay, HasRows}
+use Rattle.count_core.specs.CoreStep.{moved, walking_on, having_asked, lessened, cut, taking}
 use Rattle.count_core.proofs.Views.{sum_same, sum_up, sum_le, sum_split, sum_join, sum_pointwise, each_set, each_push, part_le}
 use Rattle.count_core.proofs.Lists.{get_or-zeros}
 use Rattle.count_core.proofs.Places.{word_at, other_place, other_site, word_before}
@@ -43,9 +43,6 @@ site_frame places key count dropped site views key' count' dropped' views' h K C
     missed_now : sum_by (misses (is_kept key' places) site) views' ≡ sum_by (misses (is_kept key places) site) views
     missed_now = missed (is_kept key' places) ∙ ap (λ kept. sum_by (misses kept site) views) kept_now
 
-abbrev with : CoreState → List ℕ → List CoreView → CoreState
-with s words views = record { words = words; views = views; layout = s.layout }
-
 -- the words of a site are the same
 abbrev SameSite : Layout → List ℕ → List ℕ → ℕ → Type 0
 SameSite l words words' site = (o : ℕ) → o < 2 * l.places + 1 → slice_index words' (word_at l site o) ≡ slice_index words (word_at l site o)
@@ -64,7 +61,7 @@ pub record Remembers (views views' : List CoreView) (site : ℕ) : Type 0 where
   pub asked : (k : ℕ) → sum_by (asks site k) views' ≡ sum_by (asks site k) views
   pub missed : (kept : ℕ → Bool) → sum_by (misses kept site) views' ≡ sum_by (misses kept site) views
 
-site_as_before : (s : CoreState) (words : List ℕ) (views : List CoreView) (site : ℕ) → SameSite s.layout s.words words site → Remembers s.views views site → IsSite s.layout.places (key_of s site) (count_of s site) (dropped_of s site) site s.views → IsSite s.layout.places (key_of (with s words views) site) (count_of (with s words views) site) (dropped_of (with s words views) site) site views
+site_as_before : (s : CoreState) (words : List ℕ) (views : List CoreView) (site : ℕ) → SameSite s.layout s.words words site → Remembers s.views views site → IsSite s.layout.places (key_of s site) (count_of s site) (dropped_of s site) site s.views → IsSite s.layout.places (key_of (core s.layout words views) site) (count_of (core s.layout words views) site) (dropped_of (core s.layout words views) site) site views
 site_as_before s words views site same r h =
     site_frame s.layout.places (key_of s site) (count_of s site) (dropped_of s site) site s.views _ _ _ views h
     (λ p q. same p (omega arith))
@@ -98,7 +95,7 @@ module _ (s : CoreState) (id : ℕ) (v : CoreView) where
   }
 
   -- a word that is none of the rows' changes
-  pub elsewhere : HasRows s → get_elem? s.views id ≡ some v → (words : List ℕ) (w : CoreView) → SameRows s.layout s.words words → w.asked ≡ v.asked → w.walking ≡ v.walking → HasRows (with s words (set s.views id w))
+  pub elsewhere : HasRows s → get_elem? s.views id ≡ some v → (words : List ℕ) (w : CoreView) → SameRows s.layout s.words words → w.asked ≡ v.asked → w.walking ≡ v.walking → HasRows (core s.layout words (set s.views id w))
   elsewhere h at words w same asked walking = record {
     sites = λ site lt. site_as_before s words (set s.views id w) site (same site lt) (remembers at w asked site (λ k. let e : walk_with site k w.walking ≡ walk_with site k v.walking = ap (walk_with site k) walking in omega arith)) (h.sites site lt);
     walks = walks_set s.layout s.words words s.views id w h.walks (λ site p lt lt' _. same site lt p (omega arith)) (λ x is. let y = h.walks id v x at (sym walking ∙ is) in on_way s.layout s.words words x y (λ p lt _. same x.site y.in_sites p (omega arith)));
@@ -146,7 +143,7 @@ module _ (s : CoreState) (id : ℕ) (v : CoreView) where
       views = set s.views id u
 
       t : CoreState
-      t = with s words views
+      t = core s.layout words views
 
       way : IsOnWay s.layout s.words w
       way = h.walks id v w at is
@@ -281,14 +278,14 @@ module _ (s : CoreState) (id : ℕ) (v : CoreView) where
       raised_word = let way = h.walks id v w at is in let z = word_before s.layout w.site o way.in_sites inside in get_or-set_same s.words (word_at s.layout w.site o) _ 0 (omega arith)
 
       -- the other sites and the walks are as before
-      ends : (let t = with s (counted_on s (word_at s.layout w.site o)) (set s.views id (having_asked v w)) in IsSite s.layout.places (key_of t w.site) (count_of t w.site) (dropped_of t w.site) w.site t.views) → HasRows (with s (counted_on s (word_at s.layout w.site o)) (set s.views id (having_asked v w)))
+      ends : (let t = core s.layout (counted_on s (word_at s.layout w.site o)) (set s.views id (having_asked v w)) in IsSite s.layout.places (key_of t w.site) (count_of t w.site) (dropped_of t w.site) w.site t.views) → HasRows (core s.layout (counted_on s (word_at s.layout w.site o)) (set s.views id (having_asked v w)))
       ends mine = record {
         sites = λ site lt. dite (ℕ_discrete site w.site) (λ e. subst (λ (site : ℕ). IsSite s.layout.places (key_of t site) (count_of t site) (dropped_of t site) site t.views) (sym e) mine) (λ ne. site_as_before s t.words t.views site (λ p lt'. other_word site p lt' (other_site s.layout site p w.site o lt' inside ne)) (asked_elsewhere site ne) (h.sites site lt));
         walks = walks_set s.layout s.words t.words s.views id (having_asked v w) h.walks (λ site p _ lt _. other_word site p (omega arith) (other_place s.layout site p w.site o (omega arith) inside (λ e. omega arith))) (λ x none. absurd (no_walk none));
       }
         where
           t : CoreState
-          t = with s (counted_on s (word_at s.layout w.site o)) (set s.views id (having_asked v w))
+          t = core s.layout (counted_on s (word_at s.layout w.site o)) (set s.views id (having_asked v w))
 
           no_walk : {x : Walk} → ◌≡◌ {A = Option Walk} None (Some x) → ⊥
           no_walk e = cc
@@ -298,7 +295,7 @@ module _ (s : CoreState) (id : ℕ) (v : CoreView) where
     counts won = ends (s.layout.places + w.place) (let z = way.in_places in omega arith) (omega arith) mine
       where
         t : CoreState
-        t = with s (counted_on s (count_at s.layout w.site w.place)) (set s.views id (having_asked v w))
+        t = core s.layout (counted_on s (count_at s.layout w.site w.place)) (set s.views id (having_asked v w))
 
         way : IsOnWay s.layout s.words w
         way = h.walks id v w at is
@@ -373,7 +370,7 @@ module _ (s : CoreState) (id : ℕ) (v : CoreView) where
     drops last full other = ends (2 * s.layout.places) inside (omega arith) mine
       where
         t : CoreState
-        t = with s (counted_on s (dropped_at s.layout w.site)) (set s.views id (having_asked v w))
+        t = core s.layout (counted_on s (dropped_at s.layout w.site)) (set s.views id (having_asked v w))
 
         way : IsOnWay s.layout s.words w
         way = h.walks id v w at is
@@ -426,14 +423,14 @@ module _ (s : CoreState) (id : ℕ) (v : CoreView) where
         }
 
   -- a view is cut in two
-  pub row_splits : HasRows s → get_elem? s.views id ≡ some v → (k : ℕ) → HasRows (with s s.words (set s.views id (record v { shares = v.shares - k }) ++ fresh k ∷ []))
+  pub row_splits : HasRows s → get_elem? s.views id ≡ some v → (k : ℕ) → HasRows (cut s id v k)
   row_splits h at k = record {
     sites = λ site lt. site_as_before s s.words _ site (λ o _. refl) (remembered site) (h.sites site lt);
     walks = λ j u w e is. each_push (λ x. (w : Walk) → x.walking ≡ Some w → IsOnWay s.layout s.words w) (set s.views id left) (fresh k) (λ i x x_at y y_is. walks_set s.layout s.words s.words s.views id left h.walks (λ _ _ _ _ _. refl) (λ z z_is. h.walks id v z at z_is) i x y x_at y_is) (λ y none. absurd (no_walk none)) j u e w is;
   }
     where
       left : CoreView
-      left = record v { shares = v.shares - k }
+      left = lessened v k
 
       no_walk : {x : Walk} → ◌≡◌ {A = Option Walk} None (Some x) → ⊥
       no_walk e = cc
@@ -446,7 +443,7 @@ module _ (s : CoreState) (id : ℕ) (v : CoreView) where
       }
 
   -- a view takes in another, which has no walk
-  pub row_joins : HasRows s → get_elem? s.views id ≡ some v → (other : ℕ) (u : CoreView) → get_elem? (set s.views id (merged v u)) other ≡ some u → u.walking ≡ None → HasRows (with s s.words (set (set s.views id (merged v u)) other spent))
+  pub row_joins : HasRows s → get_elem? s.views id ≡ some v → (other : ℕ) (u : CoreView) → get_elem? (set s.views id (merged v u)) other ≡ some u → u.walking ≡ None → HasRows (taking s id v other u)
   row_joins h at other u at_other rests = record {
     sites = λ site lt. site_as_before s s.words _ site (λ o _. refl) (remembered site) (h.sites site lt);
     walks = walks_set s.layout s.words s.words (set s.views id both) other spent (walks_set s.layout s.words s.words s.views id both h.walks (λ _ _ _ _ _. refl) (λ z z_is. h.walks id v z at z_is)) (λ _ _ _ _ _. refl) (λ y none. absurd (no_walk none));

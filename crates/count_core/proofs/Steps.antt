@@ -1,5 +1,5 @@
 -- Each allowed step keeps the invariant.
-use Rattle.std.proofs.Common.{◌≡◌, ◌≢◌, ℕ, zero, suc, ◌+◌, ◌-◌, ◌*◌, ◌%◌, ◌^◌, ◌<◌, ◌≤◌, true, not, ◌&&◌, ◌==◌, nat_lt, List, [], ◌∷◌, ◌++◌, set, Option, Some, None, sym, refl, ap, ◌∙◌, subst, arith, if◌then◌else◌, get_or-set_other, true≢false, eqb-true, eq-eqb, ne_eqb, ltb-true, slice_index_or, slice_index}
+use Rattle.std.proofs.Common.{◌≡◌, ◌≢◌, ℕ, zero, suc, ◌+◌, ◌*◌, ◌%◌, ◌^◌, ◌<◌, ◌≤◌, true, not, ◌&&◌, ◌==◌, nat_lt, List, [], ◌∷◌, set, Option, Some, None, sym, refl, ap, ◌∙◌, subst, arith, if◌then◌else◌, get_or-set_other, true≢false, eqb-true, eq-eqb, ne_eqb, ltb-true, slice_index_or, slice_index}
 use Rattle.std.proofs.lemmas.List.{set-get_or}
 use mathlib.Core.Logic.{dite}
 use mathlib.Core.Option.{some}
@@ -14,8 +14,9 @@ use Rattle.count_core.specs.declared.step.CoreStep.{CoreStep}
 use Rattle.count_core.specs.declared.step.CoreStep.TheVariants.{Add, Read, LoadKey, ClaimKey, AddCount, AddDropped, Draw, Split, Join}
 use Rattle.count_core.specs.Layout.{key_at, count_at, dropped_at, ticket_at}
 use Rattle.count_core.specs.CoreView.{spent, walk_with, raised, merged}
-use Rattle.count_core.specs.CoreState.{key_of, IsOnWay, HasRows, IsCore, opening}
-use Rattle.count_core.specs.CoreStep.{view_of, is_resting, is_passing, can_load, can_claim, can_count, can_drop, allowed, moved, seen, walking_on, after_claim, after_count, after_drop, having_asked, having_drawn, after}
+use Rattle.count_core.specs.CoreState.{core, key_of, IsOnWay, HasRows, IsCore, opening}
+use Rattle.count_core.specs.CoreStep.{view_of, is_resting, is_passing, can_load, can_claim, can_count, can_drop, allowed, moved, seen, walk_to, walking_on, claiming, after_claim, after_count, after_drop, having_asked, having_drawn, cut, taking, after}
+use Rattle.count_core.specs.StepLaws.{looking, KeepSound, KeepRows}
 use Rattle.count_core.proofs.Kept.{and_left, and_right}
 use Rattle.count_core.proofs.Places.{word_at, word_before}
 use Rattle.count_core.proofs.Keeps.{looks, in_rows, adds, draws, splits, joins, opens}
@@ -41,27 +42,27 @@ keeps_row_word all s id v w h at has site o n lt lt' same_shares same_added same
 }
 
 module _ (all : ℕ) (s : CoreState) (h : IsCore all s) where
-  pub adds_core : (id : ℕ) (v : CoreView) → get_elem? s.views id ≡ some v → 0 < v.shares → (i k : ℕ) → i < s.layout.counters → IsCore all (moved s i ((slice_index s.words i + k) % 2 ^ 64) id (record v { added = raised v.added i k }))
+  adds_core : (id : ℕ) (v : CoreView) → get_elem? s.views id ≡ some v → 0 < v.shares → (i k : ℕ) → i < s.layout.counters → IsCore all (moved s i ((slice_index s.words i + k) % 2 ^ 64) id (record v { added = raised v.added i k }))
   adds_core id v at has i k lt = record {
     sound = adds all s id v h.sound at has i k lt;
     rows = elsewhere s id v h.rows at (set s.words i ((slice_index s.words i + k) % 2 ^ 64)) (record v { added = raised v.added i k }) (λ site lt' o lt''. get_or-set_other s.words i (word_at s.layout site o) _ 0 (λ e. let z : ℕ = site * (2 * s.layout.places + 1) in omega arith)) refl refl;
   }
 
-  pub draws_core : (id : ℕ) (v : CoreView) → get_elem? s.views id ≡ some v → 0 < v.shares → slice_index s.words (ticket_at s.layout) < 2 ^ 32 → IsCore all (moved s (ticket_at s.layout) (slice_index s.words (ticket_at s.layout) + 1) id (having_drawn v (slice_index s.words (ticket_at s.layout)) s.layout.numbers))
+  draws_core : (id : ℕ) (v : CoreView) → get_elem? s.views id ≡ some v → 0 < v.shares → slice_index s.words (ticket_at s.layout) < 2 ^ 32 → IsCore all (moved s (ticket_at s.layout) (slice_index s.words (ticket_at s.layout) + 1) id (having_drawn v (slice_index s.words (ticket_at s.layout)) s.layout.numbers))
   draws_core id v at has low = record {
     sound = draws all s id v h.sound at has low;
     rows = elsewhere s id v h.rows at (set s.words (ticket_at s.layout) _) (having_drawn v (slice_index s.words (ticket_at s.layout)) s.layout.numbers) (λ site lt o lt'. get_or-set_other s.words (ticket_at s.layout) (word_at s.layout site o) _ 0 (λ e. let z = word_before s.layout site o lt lt' in omega arith)) refl refl;
   }
 
   -- a walk goes on, with the word that it found
-  pub loads_core : (id : ℕ) (v : CoreView) → get_elem? s.views id ≡ some v → 0 < v.shares → (i : ℕ) (w : Walk) → IsOnWay s.layout s.words w → ((site k : ℕ) → walk_with site k v.walking ≤ walk_with site k (Some w)) → IsCore all (moved s i (slice_index s.words i) id (walking_on v w))
+  loads_core : (id : ℕ) (v : CoreView) → get_elem? s.views id ≡ some v → 0 < v.shares → (i : ℕ) (w : Walk) → IsOnWay s.layout s.words w → ((site k : ℕ) → walk_with site k v.walking ≤ walk_with site k (Some w)) → IsCore all (moved s i (slice_index s.words i) id (walking_on v w))
   loads_core id v at has i w way more = record {
     sound = looks all s id v h.sound at has i (walking_on v w) refl refl refl;
     rows = walks_on s id v h.rows at i w way more;
   }
 
-  pub claims_core : (id : ℕ) (v : CoreView) → get_elem? s.views id ≡ some v → 0 < v.shares → (w : Walk) → v.walking ≡ Some w → key_of s w.site w.place ≡ 0 → IsCore all (moved s (key_at s.layout w.site w.place) w.key id (walking_on v (record w { winner = w.key })))
-  claims_core id v at has w is empty =
+  wins_core : (id : ℕ) (v : CoreView) → get_elem? s.views id ≡ some v → 0 < v.shares → (w : Walk) → v.walking ≡ Some w → key_of s w.site w.place ≡ 0 → IsCore all (moved s (key_at s.layout w.site w.place) w.key id (walking_on v (record w { winner = w.key })))
+  wins_core id v at has w is empty =
       let way = h.rows.walks id v w at is in
       keeps_row_word all s id v (walking_on v (record w { winner = w.key })) h at has w.site w.place w.key way.in_sites (let z = way.in_places in omega arith) refl refl refl (claims s id v h.sound.sized h.rows at w is empty)
 
@@ -76,33 +77,72 @@ module _ (all : ℕ) (s : CoreState) (h : IsCore all s) where
       keeps_row_word all s id v (having_asked v w) h at has w.site (2 * s.layout.places) _ way.in_sites (omega arith) refl refl refl (drops s id v h.sound.sized h.rows at w is last full other)
 
   -- who lost a claim goes on with the winner's key
-  pub losses_core : (id : ℕ) (v : CoreView) → get_elem? s.views id ≡ some v → 0 < v.shares → (w : Walk) → v.walking ≡ Some w → IsCore all (moved s (key_at s.layout w.site w.place) (key_of s w.site w.place) id (walking_on v (record w { winner = key_of s w.site w.place })))
+  losses_core : (id : ℕ) (v : CoreView) → get_elem? s.views id ≡ some v → 0 < v.shares → (w : Walk) → v.walking ≡ Some w → IsCore all (moved s (key_at s.layout w.site w.place) (key_of s w.site w.place) id (walking_on v (record w { winner = key_of s w.site w.place })))
   losses_core id v at has w is = loads_core id v at has (key_at s.layout w.site w.place) (record w { winner = key_of s w.site w.place }) (lost_way s.layout s.words w (h.rows.walks id v w at is)) (λ site k. let e : walk_with site k v.walking ≡ walk_with site k (Some w) = ap (walk_with site k) is in omega arith)
 
-  pub splits_core : (id : ℕ) (v : CoreView) → get_elem? s.views id ≡ some v → (k : ℕ) → 0 < k → k < v.shares → IsCore all record { words = s.words; views = set s.views id (record v { shares = v.shares - k }) ++ record { shares = k; added = []; asked = []; drawn = []; walking = None } ∷ []; layout = s.layout }
-  splits_core id v at k positive less = record { sound = splits all s id v h.sound at k positive less; rows = row_splits s id v h.rows at k }
+  pub claims_core : (id : ℕ) (v : CoreView) → get_elem? s.views id ≡ some v → 0 < v.shares → (w : Walk) → v.walking ≡ Some w → IsCore all (claiming s id v w)
+  claims_core id v at has w is =
+      dite (ℕ_discrete (key_of s w.site w.place) 0)
+      (λ empty. subst P (sym (ap (λ b. if b then w.key else key_of s w.site w.place) (eq-eqb (key_of s w.site w.place) 0 empty))) (wins_core id v at has w is empty))
+      (λ full. subst P (sym (ap (λ b. if b then w.key else key_of s w.site w.place) (ne_eqb (key_of s w.site w.place) 0 full))) (losses_core id v at has w is))
+    where
+      P : ℕ → Type 0
+      P kept = IsCore all (moved s (key_at s.layout w.site w.place) kept id (walking_on v (record w { winner = kept })))
 
-  pub joins_core : (id : ℕ) (v : CoreView) → get_elem? s.views id ≡ some v → 0 < v.shares → (other : ℕ) (u : CoreView) → get_elem? (set s.views id (merged v u)) other ≡ some u → u.walking ≡ None → IsCore all record { words = s.words; views = set (set s.views id (merged v u)) other spent; layout = s.layout }
+  pub begins_core : (id : ℕ) (v : CoreView) → get_elem? s.views id ≡ some v → 0 < v.shares → v.walking ≡ None → (site key : ℕ) → site < s.layout.sites → 0 < s.layout.places → key ≢ 0 → IsCore all (looking s id v site key 0)
+  begins_core id v at has rests site key lt some_place nz =
+      loads_core id v at has (key_at s.layout site 0) (walk_to s site key 0) (first_way s.layout s.words site key lt some_place nz)
+      (λ site' k. let e : walk_with site' k v.walking ≡ 0 = ap (walk_with site' k) rests in omega arith)
+
+  pub goes_on_core : (id : ℕ) (v : CoreView) → get_elem? s.views id ≡ some v → 0 < v.shares → (w : Walk) → v.walking ≡ Some w → w.place + 1 < s.layout.places → w.winner ≢ 0 → w.winner ≢ w.key → IsCore all (looking s id v w.site w.key (w.place + 1))
+  goes_on_core id v at has w is lt full other =
+      loads_core id v at has (key_at s.layout w.site (w.place + 1)) (walk_to s w.site w.key (w.place + 1)) (next_way s.layout s.words w (w.place + 1) (h.rows.walks id v w at is) refl lt full other)
+      (λ site' k. let e : walk_with site' k v.walking ≡ walk_with site' k (Some w) = ap (walk_with site' k) is in omega arith)
+
+  pub cuts_core : (id : ℕ) (v : CoreView) → get_elem? s.views id ≡ some v → (k : ℕ) → 0 < k → k < v.shares → IsCore all (cut s id v k)
+  cuts_core id v at k positive less = record { sound = splits all s id v h.sound at k positive less; rows = row_splits s id v h.rows at k }
+
+  pub joins_core : (id : ℕ) (v : CoreView) → get_elem? s.views id ≡ some v → 0 < v.shares → (other : ℕ) (u : CoreView) → get_elem? (set s.views id (merged v u)) other ≡ some u → u.walking ≡ None → IsCore all (taking s id v other u)
   joins_core id v at has other u at_other rests = record { sound = joins all s id v h.sound at has other u at_other; rows = row_joins s id v h.rows at other u at_other rests }
 
 pub opens_core : (l : Layout) (shares : ℕ) → IsCore shares (opening l shares)
 opens_core l shares = record { sound = opens l shares; rows = row_opens l shares }
 
+pub keep_sound : KeepSound
+keep_sound all s id v h at has = record {
+  adds = adds all s id v h at has;
+  draws = draws all s id v h at has;
+  cuts = splits all s id v h at;
+  joins = joins all s id v h at has;
+}
+
+pub keep_rows : KeepRows
+keep_rows all s id v h at has = record {
+  begins = begins_core all s h id v at has;
+  goes_on = goes_on_core all s h id v at has;
+  claims = claims_core all s h id v at has;
+  counts = counts_core all s h id v at has;
+  drops = drops_core all s h id v at has;
+  cuts = cuts_core all s h id v at;
+  joins = joins_core all s h id v at has;
+}
+
 -- no word changes where one is written anew with what it was
 unmoved : (s : CoreState) (i id : ℕ) (w : CoreView) → moved s i (slice_index s.words i) id w ≡ seen s id w
-unmoved s i id w = λ j. record { words = set-get_or s.words i 0 j; views = set s.views id w; layout = s.layout }
+unmoved s i id w = λ j. core s.layout (set-get_or s.words i 0 j) (set s.views id w)
 
-abbrev walk_to : CoreState → ℕ → ℕ → ℕ → Walk
-walk_to s site key place = record { site = site; key = key; place = place; winner = key_of s site place }
+-- a look is a step from a state in which nothing moves
+looks_keep : (all : ℕ) (s : CoreState) (seat : ℕ) (v : CoreView) (site key place site' key' place' : ℕ) → site ≡ site' → key ≡ key' → place ≡ place' → IsCore all (looking s seat v site key place) → IsCore all (seen s seat (walking_on v (walk_to s site' key' place')))
+looks_keep all s seat v site key place site' key' place' a b c h =
+    subst (λ (y : ℕ × (ℕ × ℕ)). IsCore all (seen s seat (walking_on v (walk_to s y.0 y.1.0 y.1.1)))) (λ i. (a i, (b i, c i)))
+    (subst (IsCore all) (unmoved s (key_at s.layout site place) seat (walking_on v (walk_to s site key place))) h)
 
 load_keeps : (all : ℕ) (s : CoreState) (seat site key place : ℕ) (o : Option Walk) → IsCore all s → 0 < (view_of s seat).shares → site < s.layout.sites → place < s.layout.places → (view_of s seat).walking ≡ o → can_load o site key place ≡ true → IsCore all (after s (LoadKey seat site key place))
 load_keeps all s seat site key place None h has in_sites in_places is can =
     let at_first : place ≡ 0 = eqb-true place 0 (and_left _ _ can) in
     let nz = not_zero_test key (and_right (place == 0) _ can) in
-    subst (IsCore all) (unmoved s (key_at s.layout site place) seat (walking_on (view_of s seat) (walk_to s site key place)))
-    (loads_core all s h seat (view_of s seat) (view_at s.views seat has) has (key_at s.layout site place) (walk_to s site key place)
-    (subst (λ (place : ℕ). IsOnWay s.layout s.words (walk_to s site key place)) (sym at_first) (first_way s.layout s.words site key in_sites (omega arith) nz))
-    (λ site' k. let e : walk_with site' k (view_of s seat).walking ≡ 0 = ap (walk_with site' k) is in omega arith))
+    looks_keep all s seat (view_of s seat) site key 0 site key place refl refl (sym at_first)
+    (begins_core all s h seat (view_of s seat) (view_at s.views seat has) has is site key in_sites (omega arith) nz)
 load_keeps all s seat site key place (Some w) h has in_sites in_places is can =
     let same = and_left _ _ can in
     let go = and_right ((w.site == site) && (w.key == key)) _ can in
@@ -112,21 +152,12 @@ load_keeps all s seat site key place (Some w) h has in_sites in_places is can =
     let next : place ≡ w.place + 1 = eqb-true place (w.place + 1) (and_right (is_passing w) _ go) in
     let full = not_zero_test w.winner (and_left _ _ passing) in
     let other = not_equal_test w.winner w.key (and_right (not (w.winner == 0)) _ passing) in
-    let way = h.rows.walks seat (view_of s seat) w (view_at s.views seat has) is in
-    subst (IsCore all) (unmoved s (key_at s.layout site place) seat (walking_on (view_of s seat) (walk_to s site key place)))
-    (loads_core all s h seat (view_of s seat) (view_at s.views seat has) has (key_at s.layout site place) (walk_to s site key place)
-    (subst (λ (y : ℕ × ℕ). IsOnWay s.layout s.words (walk_to s y.0 y.1 place)) (λ i. (site_is i, key_is i)) (next_way s.layout s.words w place way next in_places full other))
-    (λ site' k. let e : walk_with site' k (view_of s seat).walking ≡ walk_with site' k (Some (walk_to s site key place)) = ap (walk_with site' k) is ∙ (λ i. walk_with site' k (Some (walk_to s (site_is i) (key_is i) place))) in omega arith))
+    looks_keep all s seat (view_of s seat) w.site w.key (w.place + 1) site key place site_is key_is (sym next)
+    (goes_on_core all s h seat (view_of s seat) (view_at s.views seat has) has w is (omega arith) full other)
 
 claim_keeps : (all : ℕ) (s : CoreState) (seat place : ℕ) (o : Option Walk) → IsCore all s → 0 < (view_of s seat).shares → (view_of s seat).walking ≡ o → can_claim o place ≡ true → IsCore all (after_claim s seat o)
 claim_keeps all s seat place None h has is can = h
-claim_keeps all s seat place (Some w) h has is can =
-    dite (ℕ_discrete (key_of s w.site w.place) 0)
-    (λ empty. subst P (sym (ap (λ b. if b then w.key else key_of s w.site w.place) (eq-eqb (key_of s w.site w.place) 0 empty))) (claims_core all s h seat (view_of s seat) (view_at s.views seat has) has w is empty))
-    (λ full. subst P (sym (ap (λ b. if b then w.key else key_of s w.site w.place) (ne_eqb (key_of s w.site w.place) 0 full))) (losses_core all s h seat (view_of s seat) (view_at s.views seat has) has w is))
-  where
-    P : ℕ → Type 0
-    P kept = IsCore all (moved s (key_at s.layout w.site w.place) kept seat (walking_on (view_of s seat) (record w { winner = kept })))
+claim_keeps all s seat place (Some w) h has is can = claims_core all s h seat (view_of s seat) (view_at s.views seat has) has w is
 
 count_keeps : (all : ℕ) (s : CoreState) (seat place : ℕ) (o : Option Walk) → IsCore all s → 0 < (view_of s seat).shares → (view_of s seat).walking ≡ o → can_count o place ≡ true → IsCore all (after_count s seat o)
 count_keeps all s seat place None h has is can = h
@@ -168,7 +199,7 @@ step_keeps all s (Split seat k) h e =
     let r = and_right (is_resting (view_of s seat).walking) _ e in
     let positive = ltb-true 0 k (and_left _ _ r) in
     let less : k < (view_of s seat).shares = ltb-true k _ (and_right (nat_lt 0 k) _ r) in
-    splits_core all s h seat (view_of s seat) (view_at s.views seat (omega arith)) k positive less
+    cuts_core all s h seat (view_of s seat) (view_at s.views seat (omega arith)) k positive less
 step_keeps all s (Join seat other) h e =
     let shares = and_left _ _ e in
     let r = and_right (nat_lt 0 (view_of s seat).shares && nat_lt 0 (view_of s other).shares) _ e in

@@ -9,9 +9,13 @@ use Rattle.count_core.specs.declared.state.CoreState.{CoreState}
 use Rattle.count_core.specs.Layout.{key_at, count_at, dropped_at, ticket_at, word_count}
 use Rattle.count_core.specs.CoreView.{fresh, spent, shares_of, added_to, weight_of, asks, wants, is_kept, misses}
 
+-- words and views of a layout
+abbrev pub core : Layout → List ℕ → List CoreView → CoreState
+core l words views = record { words = words; views = views; layout = l }
+
 -- the words are 0, and one view has all shares
 abbrev pub opening : Layout → ℕ → CoreState
-opening l shares = record { words = replicate (word_count l) 0; views = fresh shares ∷ []; layout = l }
+opening l shares = core l (replicate (word_count l) 0) (fresh shares ∷ [])
 
 abbrev pub key_of : CoreState → ℕ → ℕ → ℕ
 key_of s site place = slice_index s.words (key_at s.layout site place)

@@ -7,7 +7,7 @@ use Rattle.count_core.specs.declared.step.CoreStep.{CoreStep}
 use Rattle.count_core.specs.declared.step.CoreStep.TheVariants.{Add, Read, LoadKey, ClaimKey, AddCount, AddDropped, Draw, Split, Join}
 use Rattle.count_core.specs.Layout.{key_at, count_at, dropped_at, ticket_at}
 use Rattle.count_core.specs.CoreView.{fresh, spent, raised, merged}
-use Rattle.count_core.specs.CoreState.{key_of, ticket_of}
+use Rattle.count_core.specs.CoreState.{core, key_of, ticket_of}
 
 -- The view of a seat. A seat past the end has no shares.
 abbrev pub view_of : CoreState → ℕ → CoreView
@@ -55,11 +55,15 @@ allowed s (Join seat other) = (has_shares s seat && has_shares s other) && (not 
 
 -- the view of a seat becomes w, and no word changes
 abbrev pub seen : CoreState → ℕ → CoreView → CoreState
-seen s seat w = record { words = s.words; views = slice_set s.views seat w; layout = s.layout }
+seen s seat w = core s.layout s.words (slice_set s.views seat w)
 
 -- the word i becomes n, and the view of a seat w
 abbrev pub moved : CoreState → ℕ → ℕ → ℕ → CoreView → CoreState
-moved s i n seat w = record { words = slice_set s.words i n; views = slice_set s.views seat w; layout = s.layout }
+moved s i n seat w = core s.layout (slice_set s.words i n) (slice_set s.views seat w)
+
+-- the walk that looks at a place
+abbrev pub walk_to : CoreState → ℕ → ℕ → ℕ → Walk
+walk_to s site key place = record { site = site; key = key; place = place; winner = key_of s site place }
 
 abbrev pub walking_on : CoreView → Walk → CoreView
 walking_on v w = record v { walking = Some w }
@@ -68,11 +72,15 @@ walking_on v w = record v { walking = Some w }
 abbrev pub claimed : ℕ → ℕ → ℕ
 claimed word key = if word == 0 then key else word
 
+-- a view claims the place of its walk, and goes on with the key that has it then
+abbrev pub claiming : CoreState → ℕ → CoreView → Walk → CoreState
+claiming s seat v w =
+    let kept = claimed (key_of s w.site w.place) w.key in
+    moved s (key_at s.layout w.site w.place) kept seat (walking_on v (record w { winner = kept }))
+
 abbrev pub after_claim : CoreState → ℕ → Option Walk → CoreState
 after_claim s seat None = s
-after_claim s seat (Some w) =
-    let kept = claimed (key_of s w.site w.place) w.key in
-    moved s (key_at s.layout w.site w.place) kept seat (walking_on (view_of s seat) (record w { winner = kept }))
+after_claim s seat (Some w) = claiming s seat (view_of s seat) w
 
 -- the walk ends, and its site and key join what was asked
 abbrev pub having_asked : CoreView → Walk → CoreView
@@ -97,15 +105,23 @@ having_drawn v number numbers = record v { drawn = if nat_lt number numbers then
 abbrev pub lessened : CoreView → ℕ → CoreView
 lessened v k = record v { shares = v.shares - k }
 
+-- a new view has them
+abbrev pub cut : CoreState → ℕ → CoreView → ℕ → CoreState
+cut s seat v k = core s.layout s.words (slice_set s.views seat (lessened v k) ++ fresh k ∷ [])
+
+-- the view v of a seat takes in another, u, which is spent
+abbrev pub taking : CoreState → ℕ → CoreView → ℕ → CoreView → CoreState
+taking s seat v other u = core s.layout s.words (slice_set (slice_set s.views seat (merged v u)) other spent)
+
 abbrev pub after : CoreState → CoreStep → CoreState
 after s (Add seat index step) =
     let v = view_of s seat in
     moved s index ((slice_index s.words index + step) % 2 ^ 64) seat (record v { added = raised v.added index step })
 after s (Read seat index) = s
-after s (LoadKey seat site key place) = seen s seat (walking_on (view_of s seat) record { site = site; key = key; place = place; winner = key_of s site place })
+after s (LoadKey seat site key place) = seen s seat (walking_on (view_of s seat) (walk_to s site key place))
 after s (ClaimKey seat place) = after_claim s seat (view_of s seat).walking
 after s (AddCount seat place) = after_count s seat (view_of s seat).walking
 after s (AddDropped seat) = after_drop s seat (view_of s seat).walking
 after s (Draw seat) = moved s (ticket_at s.layout) (ticket_of s + 1) seat (having_drawn (view_of s seat) (ticket_of s) s.layout.numbers)
-after s (Split seat shares) = record { words = s.words; views = slice_set s.views seat (lessened (view_of s seat) shares) ++ fresh shares ∷ []; layout = s.layout }
-after s (Join seat other) = record { words = s.words; views = slice_set (slice_set s.views seat (merged (view_of s seat) (view_of s other))) other spent; layout = s.layout }
+after s (Split seat shares) = cut s seat (view_of s seat) shares
+after s (Join seat other) = taking s seat (view_of s seat) other (view_of s other)

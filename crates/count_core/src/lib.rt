@@ -6,7 +6,6 @@
 #![tactic(auto)]
 
 mod allowed;
-mod items;
 mod laws;
 mod player;
 mod row_steps;
@@ -16,8 +15,7 @@ mod step;
 mod sums;
 mod word_steps;
 
-pub use items::Items;
-pub use laws::reached_states_are_cores;
+pub use laws::{kept_keys_stand, one_did_all, reached_states_are_cores, steps_keep};
 pub use player::play;
 pub use state::{CoreState, CoreView, Layout, Opening, Walk, opening_state};
 pub use step::{CoreStep, PlayError};

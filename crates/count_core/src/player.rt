@@ -42,7 +42,7 @@ fn make(alloc: Global, state: &mut CoreState, step: &CoreStep) -> Result<(), All
     ensures err { OnErr result (state.new ≡ state.old) }
 {
     match *step {
-        CoreStep::Add { seat, index, step } => add(state, seat, index, step),
+        CoreStep::Add { seat, index, step } => add(alloc, state, seat, index, step),
         CoreStep::Read { seat: _, index: _ } => Ok(()),
         CoreStep::LoadKey {
             seat,

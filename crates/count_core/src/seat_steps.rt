@@ -4,10 +4,10 @@ ghost use Rattle.count_core.specs.CoreView.{merged};
 ghost use Rattle.count_core.specs.CoreStep.{after, seen, lessened, view_of};
 ghost use Rattle.count_core.specs.Play.{IsReady, can_play};
 
-use crate::items::Items;
 use crate::state::{CoreState, CoreView, fresh_view};
 use crate::step::CoreStep;
 use crate::sums::joined_sums;
+use seq::Seq;
 use std::alloc::{AllocError, Global};
 
 pub fn split(alloc: Global, state: &mut CoreState, seat: u32, shares: u32) -> Result<(), AllocError>
@@ -44,8 +44,8 @@ fn merged_view(alloc: Global, first: &CoreView, second: &CoreView) -> Result<Cor
 {
     let shares = first.shares + second.shares;
     let added = joined_sums(alloc, first.added.as_slice(), second.added.as_slice())?;
-    let asked = Items::concat(alloc, first.asked.as_slice(), second.asked.as_slice())?;
-    let drawn = Items::concat(alloc, first.drawn.as_slice(), second.drawn.as_slice())?;
+    let asked = Seq::concat(alloc, first.asked.as_slice(), second.asked.as_slice())?;
+    let drawn = Seq::concat(alloc, first.drawn.as_slice(), second.drawn.as_slice())?;
     Ok(CoreView {
         shares,
         added,

@@ -4,7 +4,7 @@ ghost use Rattle.count_core.specs.CoreState.{opening};
 ghost use Rattle.count_core.specs.Layout.{word_count};
 ghost use Rattle.count_core.specs.Play.{IsReady};
 
-use crate::items::Items;
+use seq::Seq;
 use std::alloc::{AllocError, Global};
 
 /// How many words of each kind a table has. The words are the counters, then for each site its
@@ -46,11 +46,11 @@ pub struct CoreView {
     /// A view steps only with shares. The shares of all views add up to those of the opening.
     pub shares: u32,
     /// The sum that was added to each counter. Past the end of the list the sums are 0.
-    pub added: Items<u128>,
+    pub added: Seq<u128>,
     /// The (site, key) of each walk that has ended, in order.
-    pub asked: Items<(u32, u64)>,
+    pub asked: Seq<(u32, u64)>,
     /// The numbers that were drawn, in order.
-    pub drawn: Items<u32>,
+    pub drawn: Seq<u32>,
     /// The walk that has not ended.
     pub walking: Option<Walk>,
 }
@@ -58,8 +58,8 @@ pub struct CoreView {
 /// The words of a table and the views of all threads, between two steps.
 #[derive(Debug, Drop)]
 pub struct CoreState {
-    pub words: Items<u64>,
-    pub views: Items<CoreView>,
+    pub words: Seq<u64>,
+    pub views: Seq<CoreView>,
     pub layout: Layout,
 }
 
@@ -78,9 +78,9 @@ pub(crate) fn fresh_view(alloc: Global, shares: u32) -> CoreView
 {
     CoreView {
         shares,
-        added: Items::of(Vec::new(alloc)),
-        asked: Items::of(Vec::new(alloc)),
-        drawn: Items::of(Vec::new(alloc)),
+        added: Seq::new(alloc),
+        asked: Seq::new(alloc),
+        drawn: Seq::new(alloc),
         walking: None,
     }
 }
@@ -92,8 +92,8 @@ fn zero_state(alloc: Global, layout: Layout, shares: u32) -> Result<CoreState, A
     let words = vec![in alloc; 0; count]?;
     let views = vec![in alloc; fresh_view(alloc, shares)]?;
     Ok(CoreState {
-        words: Items::of(words),
-        views: Items::of(views),
+        words: Seq::of(words),
+        views: Seq::of(views),
         layout,
     })
 }

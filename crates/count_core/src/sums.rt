@@ -2,32 +2,41 @@
 ghost use Rattle.std.specs.Prelude.{◌≡◌, ℕ, ◌+◌, ◌<◌, ◌^◌, slice_index, OnOk, OnErr, IfOk};
 ghost use Rattle.count_core.specs.CoreView.{raised, lengthened, joined};
 
-use crate::items::Items;
+use seq::Seq;
 use std::alloc::{AllocError, Global};
+use std::mem;
 
-impl Items<u128> {
-    // Puts zeros behind the list until it is as long as `count`.
-    fn lengthen(&mut self, count: usize) -> Result<(), AllocError>
-        ensures ok { OnOk result (self.new ≡ lengthened self.old count) }
-        ensures err { OnErr result (self.new ≡ self.old) }
-    {
-        if self.items.len() < count {
-            self.items.resize(count, 0)?;
-        }
+// Puts zeros behind the list until it is as long as `count`.
+fn lengthen(alloc: Global, sums: &mut Seq<u128>, count: usize) -> Result<(), AllocError>
+    ensures ok { OnOk result (sums.new ≡ lengthened sums.old count) }
+    ensures err { OnErr result (sums.new ≡ sums.old) }
+{
+    let mut items = mem::replace(sums, Seq::new(alloc)).take();
+    let grown = if items.len() < count {
+        items.resize(count, 0)
+    } else {
         Ok(())
-    }
+    };
+    *sums = Seq::of(items);
+    grown
+}
 
-    /// Adds `step` at `index`. The list is first lengthened by zeros until `index` is inside.
-    pub(crate) fn raise(&mut self, index: u32, step: u64) -> Result<(), AllocError>
-        requires { slice_index self.old index + step < 2 ^ 128 }
-        ensures ok { OnOk result (self.new ≡ raised self.old index step) }
-        ensures err { OnErr result (self.new ≡ self.old) }
-    {
-        let index = index as usize;
-        self.lengthen(index + 1)?;
-        self.items[index] += u128::from(step);
-        Ok(())
-    }
+/// Adds `step` at `index`. The list is first lengthened by zeros until `index` is inside.
+pub(crate) fn raise(
+    alloc: Global,
+    sums: &mut Seq<u128>,
+    index: u32,
+    step: u64,
+) -> Result<(), AllocError>
+    requires { slice_index sums.old index + step < 2 ^ 128 }
+    ensures ok { OnOk result (sums.new ≡ raised sums.old index step) }
+    ensures err { OnErr result (sums.new ≡ sums.old) }
+{
+    let index = index as usize;
+    lengthen(alloc, sums, index + 1)?;
+    let sums = sums.as_mut_slice();
+    sums[index] += u128::from(step);
+    Ok(())
 }
 
 fn sum_at(sums: &[u128], index: usize) -> u128
@@ -41,7 +50,7 @@ pub(crate) fn joined_sums(
     alloc: Global,
     first: &[u128],
     second: &[u128],
-) -> Result<Items<u128>, AllocError>
+) -> Result<Seq<u128>, AllocError>
     requires { (c : ℕ) → slice_index first.now c + slice_index second.now c < 2 ^ 128 }
     ensures { IfOk result (λ sums. sums ≡ joined first.now second.now) }
 {
@@ -50,5 +59,5 @@ pub(crate) fn joined_sums(
     for index in 0..count {
         sums.push(sum_at(first, index) + sum_at(second, index))?;
     }
-    Ok(Items::of(sums))
+    Ok(Seq::of(sums))
 }

@@ -6,16 +6,23 @@ ghost use Rattle.count_core.specs.Play.{IsReady, can_play};
 use crate::allowed::ticket;
 use crate::state::CoreState;
 use crate::step::CoreStep;
-use std::alloc::AllocError;
+use crate::sums::raise;
+use std::alloc::{AllocError, Global};
 
-pub fn add(state: &mut CoreState, seat: u32, index: u32, step: u64) -> Result<(), AllocError>
+pub fn add(
+    alloc: Global,
+    state: &mut CoreState,
+    seat: u32,
+    index: u32,
+    step: u64,
+) -> Result<(), AllocError>
     requires ready { IsReady state.old }
     requires playable { IsTrue (can_play state.old (CoreStep.Add seat index step)) }
     ensures ok { OnOk result (state.new ≡ after state.old (CoreStep.Add seat index step)) }
     ensures err { OnErr result (state.new ≡ state.old) }
 {
     let view = &mut state.views.as_mut_slice()[seat as usize];
-    view.added.raise(index, step)?;
+    raise(alloc, &mut view.added, index, step)?;
     let words = state.words.as_mut_slice();
     words[index as usize] = words[index as usize].wrapping_add(step);
     Ok(())

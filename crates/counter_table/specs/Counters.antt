@@ -1,16 +1,12 @@
--- The words of a counter table as a core, and what a step tells its seat.
+-- The layout of a counter table, and what a step tells its seat.
 use Rattle.std.specs.Prelude.{◌≡◌, ℕ, ◌%◌, ◌^◌, slice_index}
-use Rattle.atomic_table.specs.Table.{State, Me}
+use Rattle.atomic_table.specs.Table.{Me}
 use Rattle.atomic_table.specs.Seated.{TableId}
 use Rattle.count_core.specs.declared.state.Layout.{Layout}
 use Rattle.count_core.specs.declared.state.Opening.{Opening}
 use Rattle.count_core.specs.declared.state.CoreView.{CoreView}
-use Rattle.count_core.specs.declared.state.CoreState.{CoreState}
 use Rattle.count_core.specs.Layout.{word_count}
 use Rattle.count_core.specs.CoreView.{raised}
-
-abbrev pub core : {S : Type 0} → Layout → State S CoreView → CoreState
-core l s = record { words = s.words; views = s.views; layout = l }
 
 -- there are counters and no rows or tickets
 abbrev pub counters_only : ℕ → Layout

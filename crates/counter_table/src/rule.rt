@@ -10,11 +10,10 @@ pub struct NoSlot;
 pub struct Counters;
 
 impl TableRule<NoSlot, CoreView, Opening> for Counters {
-    ghost use Rattle.count_core.specs.CoreState.{IsSound};
+    ghost use Rattle.count_core.specs.CoreState.{core, IsSound};
     ghost use Rattle.count_core.specs.CoreView.{fresh};
-    ghost use Rattle.counter_table.specs.Counters.{core};
 
-    ghost holds = { λ k s. IsSound k.shares (core k.layout s) };
+    ghost holds = { λ k s. IsSound k.shares (core k.layout s.words s.views) };
 
     ghost first = { λ k. fresh k.shares };
 }

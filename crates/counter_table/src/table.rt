@@ -4,7 +4,7 @@ ghost use Rattle.count_core.specs.CoreView.{raised, joined};
 use crate::rule::{Adds, Counters, Cuts, Known, Merges, NoSlot, Reads};
 use crate::seat::CountSeat;
 use atomic_table::Table;
-use count_core::{CoreView, Layout, Opening};
+use count_core::{CoreView, Layout, Opening, one_did_all, steps_keep};
 use pgo_base::NoMemory;
 use std::alloc::Global;
 use std::marker::{Brand, Model};
@@ -59,6 +59,7 @@ impl CounterTable {
         requires index { index < self.now.counters }
         ensures { seat.new ≡ record { table = seat.old.table; shares = seat.old.shares; sums = raised seat.old.sums index step } }
     {
+        steps_keep();
         self.table
             .shared
             .fetch_add::<Adds>(&mut seat.seat, index as usize, step);
@@ -81,6 +82,7 @@ impl CounterTable {
         ensures same { seat.new ≡ seat.old }
         ensures whole { seat.old.shares ≡ W.known → result ≡ slice_index seat.old.sums index % 2 ^ 64 }
     {
+        one_did_all();
         self.table
             .shared
             .load::<Reads<W>>(&mut seat.seat, index as usize)
@@ -103,6 +105,7 @@ impl CounterTable {
         ensures kept { seat.new ≡ record { table = seat.old.table; shares = seat.old.shares - W.known; sums = seat.old.sums } }
         ensures given { result ≡ record { table = seat.old.table; shares = W.known; sums = [] } }
     {
+        steps_keep();
         let seat = self.table.shared.split_seat::<Cuts<W>>(&mut seat.seat);
         CountSeat { seat }
     }
@@ -113,6 +116,7 @@ impl CounterTable {
         requires other { other.table ≡ self.now.id }
         ensures { seat.new ≡ record { table = seat.old.table; shares = seat.old.shares + other.shares; sums = joined seat.old.sums other.sums } }
     {
+        steps_keep();
         let CountSeat { seat: other } = other;
         self.table.shared.join_seat::<Merges>(&mut seat.seat, other);
     }
@@ -144,6 +148,7 @@ impl CounterTable {
         requires count { length words.old ≡ self.counters }
         ensures { (c : ℕ) → c < self.counters → slice_index words.new c ≡ slice_index seat.sums c % 2 ^ 64 }
     {
+        one_did_all();
         let CounterTable { table } = self;
         let CountSeat { seat } = seat;
         let closed = table.close_with(seat);

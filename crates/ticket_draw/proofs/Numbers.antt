@@ -1,11 +1,24 @@
 -- Numbers below a bound, each once, by what they weigh.
-use Rattle.std.proofs.Common.{◌≡◌, ℕ, zero, suc, ◌+◌, ◌<◌, ◌≤◌, Bool, true, false, ◌||◌, ◌==◌, if◌then◌else◌, List, [], ◌∷◌, length, map, sum_by, count_by, refl, ap, ◌∙◌, arith, eq-eqb, ne_eqb}
-use Rattle.std.proofs.lemmas.List.Sums.{sum_by-cons, sum_by_push}
+use Rattle.std.proofs.Common.{◌≡◌, ℕ, zero, suc, ◌+◌, ◌<◌, ◌≤◌, Bool, true, false, ◌||◌, ◌==◌, if◌then◌else◌, List, [], ◌∷◌, length, map, set, drop, get_or, sum_by, count_by, refl, sym, ap, subst, ◌∙◌, arith, eq-eqb, ne_eqb}
+use Rattle.std.proofs.lemmas.List.Sums.{sum_by-cons, sum_by_push, sum_by-set}
+use Rattle.std.proofs.lemmas.List.{get_or-drop, length-drop}
 use mathlib.Core.Logic.{dite}
 use native.Mathlib.Decide.{ℕ_discrete}
+use mathlib.Core.Option.{some}
+use lib.ListN.{get_elem?}
+use Rattle.atomic_table.proofs.Lists.{drop_at}
 use Rattle.count_core.specs.CoreView.{one_if}
 use Rattle.count_core.specs.CoreState.{below}
 use Rattle.ticket_draw.specs.Tickets.{DrewEachOnce}
+
+-- a sum over views of which one changed
+pub sum_set : {X : Type 0} (f : X → ℕ) (xs : List X) (i : ℕ) (v w : X) → get_elem? xs i ≡ some v → sum_by f (set xs i w) + f v ≡ sum_by f xs + f w
+sum_set {X} f xs i v w at =
+    let rest : drop i xs ≡ v ∷ drop (suc i) xs = drop_at xs i v at in
+    let long : i < length xs = omega (arith, ap length rest, length-drop i xs) in
+    let z : i ≡ i + 0 = omega arith in
+    let is : get_or xs i v ≡ v = ap (λ k. get_or xs k v) z ∙ sym (get_or-drop i xs 0 v) ∙ ap (λ (l : List X). get_or l 0 v) rest in
+    subst (λ (y : X). sum_by f (set xs i w) + f y ≡ sum_by f xs + f w) is (sum_by-set f xs i w v long)
 
 pub none_below : (n x : ℕ) → n ≤ x → count_by (λ y. y == x) (below n) ≡ 0
 none_below zero x le = refl

@@ -1,4 +1,4 @@
--- The ticket word as a core, and what a step tells its seat.
+-- The rule of the ticket word, and what a step tells its seat.
 use Rattle.std.specs.Prelude.{◌≡◌, ℕ, ◌+◌, ◌^◌, ◌<◌, ◌≤◌, true, false, ◌||◌, ◌==◌, if◌then◌else◌, nat_lt, nat_le, List, [], ◌∷◌, ◌++◌, length, map, sum_by, count_by, slice_index}
 use mathlib.Core.Option.{some}
 use lib.ListN.{get_elem?}
@@ -7,9 +7,8 @@ use Rattle.atomic_table.specs.Seated.{TableId}
 use Rattle.count_core.specs.declared.state.Layout.{Layout}
 use Rattle.count_core.specs.declared.state.Opening.{Opening}
 use Rattle.count_core.specs.declared.state.CoreView.{CoreView}
-use Rattle.count_core.specs.declared.state.CoreState.{CoreState}
 use Rattle.count_core.specs.CoreView.{fresh, merged}
-use Rattle.count_core.specs.CoreState.{IsSound, below}
+use Rattle.count_core.specs.CoreState.{core, IsSound, below}
 use Rattle.count_core.specs.CoreStep.{lessened, having_drawn}
 use Rattle.ticket_draw.specs.declared.rule.TicketView.{TicketView}
 use Rattle.ticket_draw.specs.Seen.{SeatTickets}
@@ -28,16 +27,13 @@ pub record IsLaidOut (numbers : ℕ) (key : Opening) (id : TableId) : Type 0 whe
 abbrev pub core_of : TicketView → CoreView
 core_of v = v.core
 
-abbrev pub core : ℕ → List ℕ → List TicketView → CoreState
-core numbers words views = record { words = words; views = map core_of views; layout = tickets_only numbers }
-
 -- the shares of a seat that has met the end
 abbrev pub ended_shares : TicketView → ℕ
 ended_shares v = if v.ended then v.core.shares else 0
 
 -- The rule of the ticket table.
 pub record IsTicketed (all numbers : ℕ) (words : List ℕ) (views : List TicketView) : Type 0 where
-  pub sound : IsSound all (core numbers words views)
+  pub sound : IsSound all (core (tickets_only numbers) words (map core_of views))
   -- who has met the end found a number past it
   pub met : (id : ℕ) (v : TicketView) → get_elem? views id ≡ some v → v.ended ≡ true → numbers ≤ slice_index words 0
   -- each seat goes past the end once

@@ -4,7 +4,7 @@ ghost use Rattle.ticket_draw.specs.Tickets.{DrewEachOnce, seat_after};
 use crate::rule::{Cuts, Draws, Known, Learns, Merges, NoSlot, TicketView, Tickets};
 use crate::seat::TicketSeat;
 use atomic_table::Table;
-use count_core::{Layout, Opening};
+use count_core::{Layout, Opening, one_did_all, steps_keep};
 use pgo_base::NoMemory;
 use std::alloc::Global;
 use std::marker::{Brand, Model};
@@ -84,6 +84,8 @@ impl TicketDraw {
         ensures whole { seat.old.shares ≡ W.shares → W.numbers ≤ result → DrewEachOnce W.numbers seat.new.drawn }
         ensures few { length seat.new.drawn ≤ W.numbers }
     {
+        steps_keep();
+        one_did_all();
         self.table
             .shared
             .fetch_add::<Draws<W>>(&mut seat.seat, 0, 1)
@@ -108,6 +110,7 @@ impl TicketDraw {
         ensures kept { seat.new ≡ record { table = seat.old.table; shares = seat.old.shares - W.shares; drawn = seat.old.drawn; ended = seat.old.ended } }
         ensures given { result ≡ record { table = seat.old.table; shares = W.shares; drawn = []; ended = false } }
     {
+        steps_keep();
         let seat = self.table.shared.split_seat::<Cuts<W>>(&mut seat.seat);
         TicketSeat { seat }
     }
@@ -130,6 +133,7 @@ impl TicketDraw {
         requires other { other.table ≡ self.now.id }
         ensures { seat.new ≡ record { table = seat.old.table; shares = seat.old.shares + other.shares; drawn = seat.old.drawn ++ other.drawn; ended = seat.old.ended || other.ended } }
     {
+        steps_keep();
         let TicketSeat { seat: other } = other;
         self.table.shared.join_seat::<Merges>(&mut seat.seat, other);
     }
@@ -141,6 +145,7 @@ impl TicketDraw {
         ensures same { seat.new ≡ seat.old }
         ensures whole { seat.old.shares ≡ W.shares → seat.old.ended ≡ true → DrewEachOnce W.numbers seat.old.drawn }
     {
+        one_did_all();
         self.table.shared.load::<Learns<W>>(&mut seat.seat, 0);
     }
 

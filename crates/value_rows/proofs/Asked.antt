@@ -1,9 +1,9 @@
 -- Counts over what a seat asked for, over the keys of one site.
-use Rattle.std.proofs.Common.{◌≡◌, ◌≢◌, ◌⊎◌, ℕ, zero, suc, ◌+◌, ◌<◌, ◌≤◌, Bool, true, false, not, ◌&&◌, ◌||◌, ◌==◌, if◌then◌else◌, cond, List, [], ◌∷◌, length, get_or, count_by, filter, map, sym, refl, ap, ◌∙◌, subst, arith, inl, inr, ⊎_elim, true≢false, eqb-true, eq-eqb, ne_eqb, Contains}
+use Rattle.std.proofs.Common.{◌≡◌, ◌≢◌, ℕ, zero, suc, ◌+◌, ◌<◌, ◌≤◌, Bool, true, false, ◌&&◌, ◌==◌, cond, List, [], ◌∷◌, length, get_or, count_by, filter, map, sym, refl, ap, ◌∙◌, arith, ⊎_elim, true≢false, eqb-true, eq-eqb, Contains}
+use Rattle.std.proofs.lemmas.Bool.{cases_Bool, or_left, or_right, or_cases}
 use Rattle.std.proofs.lemmas.List.Sums.{sum_by-cons}
 use Rattle.std.specs.List.{list_any}
 use Rattle.count_core.specs.CoreView.{one_if}
-use Rattle.count_core.proofs.Kept.{is_true_or_false}
 use Rattle.value_rows.specs.Row.{keys_asked, has_key}
 
 count_cons : {X : Type 0} (p : X → Bool) (x : X) (xs : List X) → count_by p (x ∷ xs) ≡ one_if (p x) + count_by p xs
@@ -38,19 +38,7 @@ count_find p (x ∷ xs) some_one =
     let z : one_if (p x) ≡ 0 = ap one_if no_here in
     let r = count_find p xs (omega arith) in
     (suc r.0, omega (arith, r.1), r.2))
-    (is_true_or_false (p x))
-
-or_left : (a b : Bool) → a ≡ true → a || b ≡ true
-or_left true b e = refl
-or_left false b e = absurd (true≢false (sym e))
-
-or_right : (a b : Bool) → b ≡ true → a || b ≡ true
-or_right true b e = refl
-or_right false b e = e
-
-or_cases : (a b : Bool) → a || b ≡ true → (a ≡ true) ⊎ (b ≡ true)
-or_cases true b e = inl refl
-or_cases false b e = inr e
+    (cases_Bool (p x))
 
 -- a key that the row has stands at some place
 pub key_find : (kept : List (ℕ × ℕ)) (key : ℕ) → has_key kept key ≡ true → (p : ℕ) × (p < length kept) × ((get_or kept p (0, 0)).0 ≡ key)
@@ -129,7 +117,7 @@ no_key kept key apart =
     ⊎_elim
     (λ (h : has_key kept key ≡ true). let r = key_find kept key h in absurd (apart r.0 r.1 r.2))
     (λ (h : has_key kept key ≡ false). h)
-    (is_true_or_false (has_key kept key))
+    (cases_Bool (has_key kept key))
 
 pub distinct_keys : (kept : List (ℕ × ℕ)) → ((i j : ℕ) → i < j → j < length kept → (get_or kept i (0, 0)).0 ≢ (get_or kept j (0, 0)).0) → DistinctKeys kept
 distinct_keys [] d = tt

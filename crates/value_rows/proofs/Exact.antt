@@ -1,44 +1,15 @@
 -- The row of a site is exact, where one seat holds all shares and rests.
-use Rattle.std.proofs.Common.{◌≡◌, ◌≢◌, ◌⊎◌, ℕ, zero, suc, ◌+◌, ◌*◌, ◌%◌, ◌^◌, ◌<◌, ◌≤◌, Bool, true, false, not, ◌&&◌, ◌||◌, ◌==◌, inl, inr, eqb-true, List, [], ◌∷◌, length, get_or, count_by, sum_by, map, filter, Option, Some, None, sym, refl, ap, ◌∙◌, subst, arith, ⊎_elim, true≢false, slice_index, slice_index_or, zero-add, mod-eq_of_lt, All, AllPairs, Contains, le_trans}
+use Rattle.std.proofs.Common.{◌≡◌, ◌≢◌, ℕ, ◌%◌, ◌^◌, ◌<◌, ◌≤◌, Bool, true, false, not, ◌==◌, eqb-true, List, [], ◌∷◌, length, get_or, count_by, sum_by, None, sym, refl, ap, ◌∙◌, subst, arith, ⊎_elim, slice_index_or, zero-add, mod-eq_of_lt, All, Contains}
+use Rattle.std.proofs.lemmas.Bool.{not-true, or_cases}
 use Rattle.std.proofs.lemmas.List.Sums.{count_by-le-length}
-use Rattle.std.proofs.lemmas.List.{get_or_default}
 use mathlib.Core.Logic.{dite}
-use mathlib.Core.Option.{some}
 use native.Mathlib.Decide.{ℕ_discrete, dec_lt}
-use lib.ListN.{get_elem?}
-use Rattle.atomic_table.specs.Table.{State, Final, Seen}
-use Rattle.count_core.specs.declared.state.Layout.{Layout}
 use Rattle.count_core.specs.declared.state.CoreView.{CoreView}
-use Rattle.count_core.specs.declared.state.CoreState.{CoreState}
-use Rattle.count_core.specs.Layout.{key_at, count_at, dropped_at}
-use Rattle.count_core.specs.CoreView.{spent, is_at, asks, walk_with, wants, is_kept, is_missed, misses}
-use Rattle.count_core.specs.CoreState.{IsSite, IsCore, key_of, count_of, dropped_of}
-use Rattle.count_core.proofs.Kept.{kept_yes, kept_at, is_true_or_false}
-use Rattle.count_core.proofs.Keeps.{alone}
-use Rattle.count_core.proofs.RowKeeps.{site_frame}
-use Rattle.value_rows.specs.declared.row.Row.{Row}
-use Rattle.value_rows.specs.Rows.{core}
+use Rattle.count_core.specs.CoreView.{asks, walk_with, wants, is_kept, misses}
+use Rattle.count_core.specs.CoreState.{IsSite}
+use Rattle.count_core.specs.StepLaws.{KeptStand}
 use Rattle.value_rows.specs.Row.{keys_asked, occurrences, has_key, IsExact}
-use Rattle.value_rows.proofs.Asked.{count_keys, count_find, key_find, key_there, member, member_at, DistinctKeys, pigeonhole, distinct_keys}
-
--- a seat with all shares sees each site as its own
-pub alone_site : {S : Type 0} (all : ℕ) (l : Layout) (s : State S CoreView) (id : ℕ) (v : CoreView) → IsCore all (core l s) → get_elem? s.views id ≡ some v → v.shares ≡ all → (site : ℕ) → site < l.sites → IsSite l.places (key_of (core l s) site) (count_of (core l s) site) (dropped_of (core l s) site) site (v ∷ [])
-alone_site all l s id v h at whole site lt =
-    site_frame l.places (key_of (core l s) site) (count_of (core l s) site) (dropped_of (core l s) site) site s.views _ _ _ (v ∷ []) (h.rows.sites site lt) (λ _ _. refl) (λ _ _. refl) refl
-    (λ k. let e = mine (wants site k) refl in omega arith)
-    (λ k. sym (mine (asks site k) refl))
-    (λ kept. sym (mine (misses kept site) refl))
-  where
-    mine : (f : CoreView → ℕ) → f spent ≡ 0 → sum_by f s.views ≡ sum_by f (v ∷ [])
-    mine f none = alone all (core l s) id v h.sound at whole f none ∙ sym (zero-add (f v))
-
-not_true : (a : Bool) → not a ≡ true → a ≡ false
-not_true true e = absurd (true≢false (sym e))
-not_true false e = refl
-
-or_cases : (a b : Bool) → a || b ≡ true → (a ≡ true) ⊎ (b ≡ true)
-or_cases true b e = inl refl
-or_cases false b e = inr e
+use Rattle.value_rows.proofs.Asked.{count_keys, count_find, key_find, key_there, member, member_at, pigeonhole, distinct_keys}
 
 same_tests : (b c : Bool) → (b ≡ true → c ≡ true) → (c ≡ true → b ≡ true) → b ≡ c
 same_tests true true f g = refl
@@ -46,7 +17,7 @@ same_tests true false f g = sym (f refl)
 same_tests false true f g = g refl
 same_tests false false f g = refl
 
-module _ (places : ℕ) (key count : ℕ → ℕ) (dropped site : ℕ) (v : CoreView) (h : IsSite places key count dropped site (v ∷ [])) (rests : v.walking ≡ None) (kept : List (ℕ × ℕ)) (few : length kept ≤ places) (ends : length kept < places → key (length kept) ≡ 0) (full : (p : ℕ) → p < length kept → key p ≢ 0) (same : (p : ℕ) (d : ℕ × ℕ) → p < length kept → slice_index_or kept p d ≡ (key p, count p)) (short : length (keys_asked site v.asked) < 2 ^ 64) where
+module _ (stand : KeptStand) (places : ℕ) (key count : ℕ → ℕ) (dropped site : ℕ) (v : CoreView) (h : IsSite places key count dropped site (v ∷ [])) (rests : v.walking ≡ None) (kept : List (ℕ × ℕ)) (few : length kept ≤ places) (ends : length kept < places → key (length kept) ≡ 0) (full : (p : ℕ) → p < length kept → key p ≢ 0) (same : (p : ℕ) (d : ℕ × ℕ) → p < length kept → slice_index_or kept p d ≡ (key p, count p)) (short : length (keys_asked site v.asked) < 2 ^ 64) where
   asked_is : (k : ℕ) → sum_by (asks site k) (v ∷ []) ≡ occurrences (keys_asked site v.asked) k
   asked_is k = zero-add (asks site k v) ∙ count_keys site (λ x. x == k) v.asked
 
@@ -72,9 +43,9 @@ module _ (places : ℕ) (key count : ℕ → ℕ) (dropped site : ℕ) (v : Core
 
   kept_test : (k : ℕ) → has_key kept k ≡ is_kept key places k
   kept_test k = same_tests (has_key kept k) (is_kept key places k)
-      (λ e. let r = key_find kept k e in subst (λ (k : ℕ). is_kept key places k ≡ true) (sym (key_is r.0 r.1) ∙ r.2) (kept_yes key places r.0 (in_places r.0 r.1) (full r.0 r.1)))
+      (λ e. let r = key_find kept k e in subst (λ (k : ℕ). is_kept key places k ≡ true) (sym (key_is r.0 r.1) ∙ r.2) ((stand key places (key r.0)).1 (r.0, in_places r.0 r.1, refl, full r.0 r.1)))
       (λ e.
-      let r = kept_at key places k e in
+      let r = (stand key places k).0 e in
       let nz : key r.0 ≢ 0 = λ z. r.3 (sym r.2 ∙ z) in
       dite (dec_lt r.0 (length kept))
       (λ lt. subst (λ (k : ℕ). has_key kept k ≡ true) (key_is r.0 lt ∙ r.2) (key_there kept r.0 lt))
@@ -106,7 +77,7 @@ module _ (places : ℕ) (key count : ℕ → ℕ) (dropped site : ℕ) (v : Core
       let whole = filled (omega arith) in
       let missed = count_find (λ k. not (has_key kept k)) (keys_asked site v.asked) (subst (λ (n : ℕ). 0 < n) dropped_count (omega arith)) in
       let x = get_or (keys_asked site v.asked) missed.0 0 in
-      let out : has_key kept x ≡ false = not_true (has_key kept x) missed.2 in
+      let out : has_key kept x ≡ false = not-true (has_key kept x) missed.2 in
       let many : length ((x, 0) ∷ kept) ≤ length these = pigeonhole ((x, 0) ∷ kept) these (out, distinct_keys kept apart)
       (λ z e. ⊎_elim
       (λ (is_x : (x == z) ≡ true). subst (λ (z : ℕ). member these z ≡ true) (eqb-true x z is_x) (member_at these x (all_in missed.0 0 missed.1)))

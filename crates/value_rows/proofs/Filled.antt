@@ -1,32 +1,27 @@
 -- What filling the rows leaves, and the exact rows of a closed table.
-use Rattle.std.proofs.Common.{◌≡◌, ◌≢◌, ℕ, zero, suc, ◌+◌, ◌*◌, ◌%◌, ◌^◌, ◌<◌, ◌≤◌, List, [], ◌∷◌, ◌++◌, length, get_or, set, take, Option, Some, None, sym, refl, ap, ap₂, ◌∙◌, subst, arith, slice_index, slice_index_or, zero-add, below_more, get_or-set_other, get_or-set_same, get_or-take, length-take-le, mul-le-mul_right, suc-mul}
-use Rattle.std.proofs.lemmas.List.{get_or_push, get_or_append_left, length_push}
+use Rattle.std.proofs.Common.{◌≡◌, ◌≢◌, ℕ, suc, ◌+◌, ◌*◌, ◌^◌, ◌<◌, ◌≤◌, List, [], ◌∷◌, ◌++◌, length, get_or, set, take, Some, None, sym, refl, ap, ap₂, ◌∙◌, subst, arith, slice_index, slice_index_or, zero-add, below_more, get_or-set_other, get_or-set_same, get_or-take, length-take-le, mul-le-mul_right, suc-mul}
+use Rattle.std.proofs.lemmas.List.{get_or_push, get_or_append_left, get_or-drop, length_push}
 use mathlib.Core.Logic.{dite}
 use native.Mathlib.Decide.{ℕ_discrete}
-use mathlib.Core.Option.{some, some-injective, some-ne-none}
+use mathlib.Core.Option.{some}
 use lib.ListN.{get_elem?}
+use Rattle.atomic_table.proofs.Lists.{drop_at}
 use Rattle.atomic_table.specs.Table.{State, Me, Final, Seen}
 use Rattle.count_core.specs.declared.state.Walk.{Walk}
 use Rattle.count_core.specs.declared.state.Layout.{Layout}
 use Rattle.count_core.specs.declared.state.CoreView.{CoreView}
-use Rattle.count_core.specs.Layout.{ticket_at, word_count}
-use Rattle.count_core.specs.CoreState.{IsCore, IsSite, key_of, count_of, dropped_of}
-use Rattle.count_core.proofs.Places.{word_at, word_before}
+use Rattle.count_core.specs.Layout.{site_at, word_count}
+use Rattle.count_core.specs.CoreState.{core, IsCore, key_of, count_of, dropped_of}
+use Rattle.count_core.specs.StepLaws.{SitesOfOne, KeptStand}
 use Rattle.value_rows.specs.declared.row.Row.{Row}
-use Rattle.value_rows.specs.Rows.{core, rows_only, walk, Walks, Asks}
+use Rattle.value_rows.specs.Rows.{rows_only, walk, Walks, Asks}
 use Rattle.value_rows.specs.Row.{keys_asked, IsExact, Reads, no_row}
-use Rattle.value_rows.proofs.Exact.{alone_site, exact_row}
+use Rattle.value_rows.proofs.Exact.{exact_row}
 
 pub index_at : (xs : List ℕ) (i v : ℕ) → get_elem? xs i ≡ some v → v ≡ get_or xs i 0
-index_at [] i v e = absurd (some-ne-none v (sym e))
-index_at (x ∷ xs) zero v e = sym (some-injective x v e)
-index_at (x ∷ xs) (suc i) v e = index_at xs i v e
+index_at xs i v e = let z : i + 0 ≡ i = omega arith in sym (ap (λ (l : List ℕ). get_or l 0 0) (drop_at xs i v e)) ∙ get_or-drop i xs 0 0 ∙ ap (λ k. get_or xs k 0) z
 
--- a word of the rows is one of the words
-pub word_inside : (t : Layout) (site o i words : ℕ) → i ≡ word_at t site o → site < t.sites → o < 2 * t.places + 1 → words ≡ word_count t → i < words
-word_inside t site o i words e lt lt' w = let h = word_before t site o lt lt' in omega arith
-
--- and so is one of a row of w words
+-- a word of a row of w words is one of the words
 pub row_inside : (site sites w o : ℕ) → site < sites → o < w → site * w + o < sites * w + 1
 row_inside site sites w o lt lt' =
     let h : suc site * w ≤ sites * w = mul-le-mul_right w lt in
@@ -34,6 +29,17 @@ row_inside site sites w o lt lt' =
     let x : ℕ = site * w in
     let y : ℕ = sites * w in
     let h' : x + w ≤ y = omega arith in
+    omega arith
+
+-- and so is one behind the counters
+pub word_inside : (t : Layout) (site o i words : ℕ) → i ≡ site_at t site + o → site < t.sites → o < 2 * t.places + 1 → words ≡ word_count t → i < words
+word_inside t site o i words e lt lt' w =
+    let h = row_inside site t.sites (2 * t.places + 1) o lt lt' in
+    let x : ℕ = site * (2 * t.places + 1) in
+    let y : ℕ = t.sites * (2 * t.places + 1) in
+    let h' : x + o < y + 1 = h in
+    let e' : i ≡ t.counters + x + o = e in
+    let w' : words ≡ t.counters + y + 1 = w in
     omega arith
 
 module _ {S : Type 0} where
@@ -75,15 +81,15 @@ filled_more P rows i row inside here done = below_more (λ (k : ℕ). P k (get_o
     (subst (P i) (sym (get_or-set_same rows i row no_row inside)) here)
 
 -- the rows of a table that was closed with a seat that holds all shares
-pub closed_rows : {S : Type 0} (all : ℕ) (l : Layout) (sites places id : ℕ) (v : CoreView) (words : List ℕ) (slots : List S) → l ≡ rows_only sites places → v.shares ≡ all → v.walking ≡ None
-    → Final (Seen (λ (s : State S CoreView). IsCore all (core l s)) id v) words slots
+pub closed_rows : {S : Type 0} → SitesOfOne → KeptStand → (all : ℕ) (l : Layout) (sites places id : ℕ) (v : CoreView) (words : List ℕ) (slots : List S) → l ≡ rows_only sites places → v.shares ≡ all → v.walking ≡ None
+    → Final (Seen (λ (s : State S CoreView). IsCore all (core l s.words s.views)) id v) words slots
     → (site : ℕ) (row : Row) → site < sites
     → Reads words (site * (2 * places + 1)) places row.kept
     → row.dropped ≡ slice_index words (site * (2 * places + 1) + 2 * places)
     → length (keys_asked site v.asked) < 2 ^ 64
     → IsExact places (keys_asked site v.asked) row
-closed_rows {S} all l sites places id v words slots is whole rests final site row lt reads last short =
-    known (subst (λ (l : Layout). Final (Seen (λ (s : State S CoreView). IsCore all (core l s)) id v) words slots) is final)
+closed_rows {S} sites_of_one stand all l sites places id v words slots is whole rests final site row lt reads last short =
+    known (subst (λ (l : Layout). Final (Seen (λ (s : State S CoreView). IsCore all (core l s.words s.views)) id v) words slots) is final)
   where
     t : Layout
     t = rows_only sites places
@@ -91,11 +97,11 @@ closed_rows {S} all l sites places id v words slots is whole rests final site ro
     start : ℕ
     start = site * (2 * places + 1)
 
-    known : Final (Seen (λ (s : State S CoreView). IsCore all (core (rows_only sites places) s)) id v) words slots → IsExact places (keys_asked site v.asked) row
+    known : Final (Seen (λ (s : State S CoreView). IsCore all (core (rows_only sites places) s.words s.views)) id v) words slots → IsExact places (keys_asked site v.asked) row
     known (s, seen, same, _, _) =
         let word : (o : ℕ) → slice_index s.words (0 + start + o) ≡ slice_index words (start + o) = λ o. ap₂ (λ (ws : List ℕ) (k : ℕ). slice_index ws (k + o)) same (zero-add start) in
-        exact_row places (key_of (core t s) site) (count_of (core t s) site) (dropped_of (core t s) site) site v
-        (alone_site all t s id v seen.0 seen.1 whole site lt) rests row.kept
+        exact_row stand places (key_of (core t s.words s.views) site) (count_of (core t s.words s.views) site) (dropped_of (core t s.words s.views) site) site v
+        (sites_of_one all (core t s.words s.views) id v seen.0 seen.1 whole site lt) rests row.kept
         reads.few
         (λ less. word (length row.kept) ∙ reads.ends less)
         (λ p lt' z. reads.keys p lt' (sym (word p) ∙ z))

@@ -1,5 +1,5 @@
 -- The row of a site, against the keys that it asked for.
-use Rattle.std.specs.Prelude.{◌≡◌, ◌≢◌, ℕ, ◌+◌, ◌<◌, ◌≤◌, Bool, not, ◌==◌, List, [], ◌∷◌, length, slice_index, slice_index_or, map, filter, count_by, All, AllPairs, Contains}
+use Rattle.std.specs.Prelude.{◌≡◌, ◌≢◌, ℕ, ◌+◌, ◌<◌, ◌≤◌, Bool, not, ◌==◌, List, [], length, slice_index, slice_index_or, map, filter, count_by, All, AllPairs, Contains}
 use Rattle.std.specs.List.{list_any}
 use Rattle.value_rows.specs.declared.row.Row.{Row}
 

@@ -1,17 +1,13 @@
--- The words of the rows as a core, and what a step tells its seat.
-use Rattle.std.specs.Prelude.{◌≡◌, ℕ, ◌+◌, ◌<◌, ◌≤◌, List, [], ◌∷◌, ◌++◌, Option, Some, None}
-use Rattle.atomic_table.specs.Table.{State, Me}
+-- The layout of the rows, and what a step tells its seat.
+use Rattle.std.specs.Prelude.{◌≡◌, ℕ, ◌+◌, ◌<◌, ◌≤◌, [], ◌∷◌, ◌++◌, Some, None}
+use Rattle.atomic_table.specs.Table.{Me}
 use Rattle.atomic_table.specs.Seated.{TableId}
 use Rattle.count_core.specs.declared.state.Layout.{Layout}
 use Rattle.count_core.specs.declared.state.Opening.{Opening}
 use Rattle.count_core.specs.declared.state.Walk.{Walk}
 use Rattle.count_core.specs.declared.state.CoreView.{CoreView}
-use Rattle.count_core.specs.declared.state.CoreState.{CoreState}
 use Rattle.count_core.specs.Layout.{word_count}
 use Rattle.count_core.specs.CoreStep.{claimed}
-
-abbrev pub core : {S : Type 0} → Layout → State S CoreView → CoreState
-core l s = record { words = s.words; views = s.views; layout = l }
 
 -- there are rows and no counters or tickets
 abbrev pub rows_only : ℕ → ℕ → Layout

@@ -6,7 +6,7 @@ ghost use Rattle.value_rows.specs.Row.{no_row, Reads};
 use crate::row::Row;
 use crate::rule::NoSlot;
 use atomic_table::Closed;
-use count_core::Items;
+use seq::Seq;
 use std::alloc::{AllocError, Global};
 use std::mem;
 
@@ -28,7 +28,7 @@ fn blank_row(alloc: Global, places: u32) -> Result<Row, AllocError>
 {
     let kept = vec![in alloc; (0, 0); places as usize]?;
     Ok(Row {
-        kept: Items::of(kept),
+        kept: Seq::of(kept),
         dropped: 0,
     })
 }
@@ -111,8 +111,8 @@ fn fill_row(
     ensures kept { Reads (slots_items closed.now.words) start places row.new.kept }
     ensures dropped { row.new.dropped ≡ slice_index (slots_items closed.now.words) (start + 2 * places) }
 {
-    let room = mem::replace(&mut row.kept, Items::of(Vec::new(alloc)));
-    row.kept = Items::of(kept_of(closed, start, places, room.take()));
+    let room = mem::replace(&mut row.kept, Seq::new(alloc));
+    row.kept = Seq::of(kept_of(closed, start, places, room.take()));
     row.dropped = word_at(closed, start + 2 * places as usize);
 }
 

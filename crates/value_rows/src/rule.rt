@@ -10,11 +10,10 @@ pub struct NoSlot;
 pub struct Rows;
 
 impl TableRule<NoSlot, CoreView, Opening> for Rows {
-    ghost use Rattle.count_core.specs.CoreState.{IsCore};
+    ghost use Rattle.count_core.specs.CoreState.{core, IsCore};
     ghost use Rattle.count_core.specs.CoreView.{fresh};
-    ghost use Rattle.value_rows.specs.Rows.{core};
 
-    ghost holds = { λ k s. IsCore k.shares (core k.layout s) };
+    ghost holds = { λ k s. IsCore k.shares (core k.layout s.words s.views) };
 
     ghost first = { λ k. fresh k.shares };
 }

@@ -8,7 +8,7 @@ use crate::row::Row;
 use crate::rule::{Cuts, Known, Merges, NoSlot, Rows};
 use crate::seat::RowSeat;
 use atomic_table::Table;
-use count_core::{CoreView, Layout, Opening};
+use count_core::{CoreView, Layout, Opening, kept_keys_stand, one_did_all, steps_keep};
 use pgo_base::NoMemory;
 use std::alloc::{AllocError, Global};
 use std::marker::{Brand, Model};
@@ -136,6 +136,7 @@ impl ValueRows {
         ensures kept { seat.new ≡ record { table = seat.old.table; shares = seat.old.shares - W.shares; asked = seat.old.asked } }
         ensures given { result ≡ record { table = seat.old.table; shares = W.shares; asked = [] } }
     {
+        steps_keep();
         let seat = self.table.shared.split_seat::<Cuts<W>>(&mut seat.seat);
         RowSeat { seat }
     }
@@ -146,6 +147,7 @@ impl ValueRows {
         requires other { other.table ≡ self.now.id }
         ensures { seat.new ≡ record { table = seat.old.table; shares = seat.old.shares + other.shares; asked = seat.old.asked ++ other.asked } }
     {
+        steps_keep();
         let RowSeat { seat: other } = other;
         self.table.shared.join_seat::<Merges>(&mut seat.seat, other);
     }
@@ -176,6 +178,8 @@ impl ValueRows {
         requires rows { (length rows.old ≡ self.sites) × ((site : ℕ) → site < self.sites → length (slice_index_or rows.old site no_row).kept ≡ self.places) }
         ensures { (site : ℕ) → site < self.sites → length (keys_asked site seat.asked) < 2 ^ 64 → IsExact self.places (keys_asked site seat.asked) (slice_index_or rows.new site no_row) }
     {
+        one_did_all();
+        kept_keys_stand();
         let ValueRows {
             table,
             sites: _,

@@ -6,7 +6,7 @@ ghost use Rattle.value_rows.specs.Rows.{IsResting, walk, Walks, Asks};
 use crate::rule::{Begins, Claims, Ends, GoesOn, Known, NoSlot};
 use crate::table::ValueRows;
 use atomic_table::Seat;
-use count_core::CoreView;
+use count_core::{CoreView, steps_keep};
 use std::marker::Brand;
 
 // The key that has a place after a claim, where the claim found this word.
@@ -29,6 +29,7 @@ impl ValueRows {
         ensures table { seat.new.table_id ≡ seat.old.table_id }
         ensures walks { Walks (walk W.site W.key 0 result) seat.old.me seat.new.me }
     {
+        steps_keep();
         let at = self.key_word(site, 0);
         self.table.shared.load::<Begins<W>>(seat, at)
     }
@@ -52,6 +53,7 @@ impl ValueRows {
         ensures table { seat.new.table_id ≡ seat.old.table_id }
         ensures walks { Walks (walk site key (place + 1) result) seat.old.me seat.new.me }
     {
+        steps_keep();
         let at = self.key_word(site, next);
         self.table.shared.load::<GoesOn>(seat, at)
     }
@@ -68,6 +70,7 @@ impl ValueRows {
         ensures walks { Walks (walk site key place result) seat.old.me seat.new.me }
         ensures full { result ≢ 0 }
     {
+        steps_keep();
         let at = self.key_word(site, place);
         let found = self
             .table
@@ -112,6 +115,7 @@ impl ValueRows {
         ensures table { seat.new.table_id ≡ seat.old.table_id }
         ensures asks { Asks (walk site key place key) seat.old.me seat.new.me }
     {
+        steps_keep();
         let at = self.count_word(site, place);
         self.table.shared.fetch_add::<Ends>(seat, at, 1);
     }
@@ -134,6 +138,7 @@ impl ValueRows {
         ensures table { seat.new.table_id ≡ seat.old.table_id }
         ensures asks { Asks (walk site key place winner) seat.old.me seat.new.me }
     {
+        steps_keep();
         let at = self.dropped_word(site);
         self.table.shared.fetch_add::<Ends>(seat, at, 1);
     }

@@ -13,5 +13,5 @@ returns c n lt =
     let shares = ap (λ (t : TableSize). t.shares) c.self.view_is in
     let whole = ap (λ (t : SeatSums). t.shares) c.seat.view_is ∙ c.requires.whole ∙ sym shares in
     c.loop-i.invariant n (omega arith)
-    ∙ final_words c.self.inside.table.shared.key.shares c.self.inside.table.shared.key.layout c.seat.inside.seat.id c.seat.inside.seat.me.0 _ _ whole c.close_with-closed.ensures.values.2 n (omega arith)
+    ∙ final_words c.self.inside.table.shared.key.shares c.self.inside.table.shared.key.layout c.one_did_all.ensures.sums c.seat.inside.seat.id c.seat.inside.seat.me.0 _ _ whole c.close_with-closed.ensures.values.2 n (omega arith)
     ∙ ap (λ (t : SeatSums). slice_index t.sums n % 2 ^ 64) c.seat.view_is

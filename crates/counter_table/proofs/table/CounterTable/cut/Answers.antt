@@ -3,4 +3,4 @@ use Rattle.counter_table.proofs.Moves.{cut_splits}
 use Rattle.counter_table.proofs.table.CounterTable.cut.Goals as goal
 
 pub split_seat-seat-requires : goal.split_seat-seat-requires
-split_seat-seat-requires g c = (search rules, search rules, cut_splits _ _ _ _ _ (search rules) (search rules))
+split_seat-seat-requires g c = (search rules, search rules, cut_splits _ _ c.steps_keep.ensures.sound _ _ _ (search rules) (search rules))

@@ -3,4 +3,4 @@ use Rattle.ticket_draw.proofs.Moves.{merge_joins}
 use Rattle.ticket_draw.proofs.table.TicketDraw.merge.Goals as goal
 
 pub join_seat-requires : goal.join_seat-requires
-join_seat-requires c = (search rules, search rules, c.other.invariant.0, search rules, merge_joins _ _ _ _ _ _ c.seat.invariant.1)
+join_seat-requires c = (search rules, search rules, c.other.invariant.0, search rules, merge_joins _ _ c.steps_keep.ensures.sound _ _ _ _ c.seat.invariant.1)

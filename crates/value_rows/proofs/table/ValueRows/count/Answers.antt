@@ -11,7 +11,7 @@ fetch_add-requires c =
     let t = layout_of c.args.self.now in
     let laid = c.self.invariant.layout ∙ ap layout_of c.self.view_is in
     let words = c.self.invariant.words ∙ ap (λ (v : RowsSize). word_count (layout_of v)) c.self.view_is in
-    (search rules, word_inside t c.args.site (t.places + c.args.place) _ _ c.count_word-at.ensures c.requires.site (omega arith) words, count_allows _ _ t laid _ _ _ _ c.args.site c.args.key c.args.place c.count_word-at.ensures c.requires.has c.requires.walks)
+    (search rules, word_inside t c.args.site (t.places + c.args.place) _ _ c.count_word-at.ensures c.requires.site (omega arith) words, count_allows _ _ c.steps_keep.ensures.rows t laid _ _ _ _ c.args.site c.args.key c.args.place c.count_word-at.ensures c.requires.has c.requires.walks)
 
 pub returns-clause-asks : goal.returns-clause-asks
 returns-clause-asks c = c.fetch_add.ensures.2 (walk c.args.site c.args.key c.args.place c.args.key) c.requires.walks
