@@ -1,2 +1,4 @@
+pub mod Ranges
+pub mod Rounds
 pub mod Spreads
 pub mod Turns

@@ -3,7 +3,7 @@ use Rattle.std.proofs.Common.{◌≡◌, ℕ, zero, suc, ◌+◌, ◌<◌, Bool,
 use Rattle.std.proofs.lemmas.List.{length_push}
 use Rattle.std.proofs.lemmas.List.Sums.{sum_by-set}
 use Rattle.std.proofs.lemmas.Option.{none-some, same_Some}
-use Rattle.block_search.specs.Reach.{is_marked}
+use Rattle.ir_tree.specs.Reach.{is_marked}
 use Rattle.block_search.specs.Search.{Among, spread}
 
 abbrev pub one_unless : Bool → ℕ
@@ -40,7 +40,7 @@ module _ (marks : List Bool) (t : ℕ) (within : t < length marks) where
   pub marked_there : is_marked (set marks t true) t ≡ true
   marked_there = get_or-set_same marks t true false within
 
-  at_or_other : (b : ℕ) → (b ≡ t) ⊎ (is_marked (set marks t true) b ≡ is_marked marks b)
+  pub at_or_other : (b : ℕ) → (b ≡ t) ⊎ (is_marked (set marks t true) b ≡ is_marked marks b)
   at_or_other b = elim (eq_or_not b t) [ inl e ↦ inl e | inr ne ↦ inr (get_or-set_other marks t b true false ne) ]
 
 pub record Spreads (row : List ℕ) (marks : List Bool) (work : List ℕ) (after : List Bool × List ℕ) : Type 0 where

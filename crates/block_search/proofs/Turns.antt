@@ -1,11 +1,11 @@
 -- The search, one block further.
 use Rattle.std.proofs.Common.{◌≡◌, ℕ, ◌+◌, ◌<◌, Bool, true, ◌⊎◌, inl, inr, List, [], ◌∷◌, ◌++◌, length, Some, slice_get, refl, sym, ap, subst, ◌∙◌, arith}
 use Rattle.std.proofs.lemmas.List.{length_push, get_or_past}
-use Rattle.block_search.specs.Reach.{row, is_marked, Leads, IsReachable, AreRows, AreMarks}
+use Rattle.ir_tree.specs.Reach.{row, is_marked, Leads, IsReachable, AreRows, AreMarks}
 use Rattle.block_search.specs.Search.{Among, Found, state, spread}
 use Rattle.block_search.proofs.Spreads.{Spreads, spreads, unmarked, among_front, among_last, among_split}
 
-marked_within : (marks : List Bool) (b : ℕ) → is_marked marks b ≡ true → b < length marks
+pub marked_within : (marks : List Bool) (b : ℕ) → is_marked marks b ≡ true → b < length marks
 marked_within marks b m = grind (arith, get_or_past)
 
 module _ (rows : List (List ℕ)) where
@@ -19,7 +19,7 @@ module _ (rows : List (List ℕ)) where
 
   module _ (marks : List Bool) (closed : (b p t : ℕ) → is_marked marks b ≡ true → slice_get (row rows b) p ≡ Some t → is_marked marks t ≡ true) where
     -- a walk from a marked block passes marked blocks
-    stays_marked : (walk : List ℕ) (a b : ℕ) → is_marked marks a ≡ true → Leads rows walk a b → is_marked marks b ≡ true
+    pub stays_marked : (walk : List ℕ) (a b : ℕ) → is_marked marks a ≡ true → Leads rows walk a b → is_marked marks b ≡ true
     stays_marked [] a b m e = subst (λ (x : ℕ). is_marked marks x ≡ true) e m
     stays_marked (p ∷ ps) a b m w = stays_marked ps w.0 b (closed a p w.0 m w.1) w.2
 

@@ -1,6 +1,6 @@
 -- Worked examples of reachable blocks.
 use Rattle.std.specs.Prelude.{ℕ, List, [], ◌∷◌, refl}
-use Rattle.block_search.specs.Reach.{Leads, IsReachable}
+use Rattle.ir_tree.specs.Reach.{Leads, IsReachable}
 
 -- block 0 goes to 1; 1 goes to 2 twice and to 4; 2 goes back to 1; 3 goes to 4; 4 is left
 unfoldable pub looping : List (List ℕ)

@@ -1,3 +1,3 @@
 pub mod Examples
-pub mod Reach
+pub mod Rows
 pub mod Search

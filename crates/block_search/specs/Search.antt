@@ -1,6 +1,6 @@
 -- The state of the search: the marks, and the blocks that wait until their successors are marked.
 use Rattle.std.specs.Prelude.{◌≡◌, ℕ, Bool, true, ◌⊎◌, List, [], ◌∷◌, ◌++◌, length, Some, slice_get, slice_set, cond}
-use Rattle.block_search.specs.Reach.{row, is_marked, IsReachable}
+use Rattle.ir_tree.specs.Reach.{row, is_marked, IsReachable}
 
 abbrev pub Among : ℕ → List ℕ → Type 0
 Among v [] = ⊥

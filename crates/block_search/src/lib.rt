@@ -1,11 +1,11 @@
 //! The blocks of a graph that its entry leads to.
 #![tactic(auto)]
 
-mod row;
+mod rows;
 mod search;
 
-pub use row::Row;
-pub use search::reachable;
+pub use rows::Rows;
+pub use search::{reachable, reached_are_marks};
 
 #[cfg(test)]
 mod tests;

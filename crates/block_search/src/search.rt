@@ -1,17 +1,18 @@
 // Blocks are marked by a work list: each is marked once, when it is first met.
-ghost use Rattle.std.specs.Prelude.{◌≡◌, ℕ, ◌<◌, length, IfOk, OnOk, Some, slice_get};
-ghost use Rattle.block_search.specs.Reach.{AreRows, AreMarks};
+ghost use Rattle.std.specs.Prelude.{◌≡◌, ℕ, ◌<◌, List, length, IfOk, OnOk, Some, slice_get};
 ghost use Rattle.block_search.specs.Search.{Found, spread, state};
+ghost use Rattle.ir_tree.specs.Reach.{AreRows, AreMarks, reached};
 
-use crate::row::Row;
+use crate::rows::Rows;
 use pgo_base::NoMemory;
 use std::alloc::Global;
 
-/// Which blocks block 0 leads to, one mark a block. Each row has the successors of the block of its
-/// number. The time is linear in the number of blocks and of successors.
-pub fn reachable(alloc: Global, rows: &[Row]) -> Result<Vec<bool>, NoMemory>
+/// Which blocks block 0 leads to, one mark a block. The time is linear in the number of blocks and of
+/// successors.
+pub fn reachable(alloc: Global, rows: &Rows) -> Result<Vec<bool>, NoMemory>
     requires { AreRows rows.now }
-    ensures { IfOk result (λ marks. AreMarks rows.now marks.items) }
+    ensures value { IfOk result (λ marks. marks.items ≡ reached rows.now) }
+    ensures marks { IfOk result (λ marks. AreMarks rows.now marks.items) }
 {
     let mut marks = vec![in alloc; false; rows.len()]?;
     marks[0] = true;
@@ -20,15 +21,20 @@ pub fn reachable(alloc: Global, rows: &[Row]) -> Result<Vec<bool>, NoMemory>
     Ok(marks)
 }
 
+/// The marks that are computed in rounds are on exactly the blocks to which a walk leads.
+pub fn reached_are_marks()
+    ensures { (rows : List (List ℕ)) → AreRows rows → AreMarks rows (reached rows) }
+{}
+
 // Marks what the blocks that wait lead to.
-fn search(rows: &[Row], marks: &mut [bool], mut work: Vec<u32>) -> Result<(), NoMemory>
+fn search(rows: &Rows, marks: &mut [bool], mut work: Vec<u32>) -> Result<(), NoMemory>
     requires rows { AreRows rows.now }
     requires found { Found rows.now marks.old work.items }
-    ensures { OnOk result (AreMarks rows.now marks.new) }
+    ensures value { OnOk result (marks.new ≡ reached rows.now) }
+    ensures marks { OnOk result (AreMarks rows.now marks.new) }
 {
     while let Some(block) = work.pop() {
-        let row = &rows[block as usize];
-        spread(row.as_slice(), marks, &mut work)?;
+        spread(rows.row(block as usize), marks, &mut work)?;
     }
     Ok(())
 }

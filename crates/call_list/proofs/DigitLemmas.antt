@@ -7,7 +7,12 @@ use Rattle.std.specs.Str.Parse.{digits_value, ParsesUnsigned}
 use Rattle.std.proofs.lemmas.Bool.Decides.{nat_tests}
 use Rattle.std.proofs.lemmas.Str.{IsUtf8-from_ascii}
 use Rattle.std.proofs.lemmas.Str.Parse.{IsDigitsTest, IsNumeralModel, numerals_by_value, parse_digits}
-use Rattle.call_list.specs.Form.{all_digits, is_number}
+use Rattle.std.specs.Char.{is_ascii_digit}
+use Rattle.std.specs.List.{list_all}
+use Rattle.ir_tree.specs.Spelling.{is_digits}
+
+abbrev all_digits : List ℕ → Bool
+all_digits ds = list_all is_ascii_digit ds
 
 digits_test : IsDigitsTest (λ ds. all_digits ds ≡ true)
 digits_test = search rules
@@ -27,14 +32,16 @@ and_parts false b h = absurd (cc)
 some_number : (n : ℕ) → not (nat_eq n 0) ≡ true → 0 < n
 some_number n h = grind (arith, nat_tests)
 
-pub IsUtf8-number : (ds : List ℕ) → is_number ds ≡ true → IsUtf8 ds
+pub IsUtf8-number : (ds : List ℕ) → is_digits ds ≡ true → IsUtf8 ds
+unfolding is_digits
 IsUtf8-number ds h = IsUtf8-from_ascii ds (below_128 ds (and_parts (not (nat_eq (length ds) 0)) (all_digits ds) h).1)
 
 some_iff_ok : {E : Type 0} (ds : List ℕ) (r : Result ℕ E) → 0 < length ds → OkIff r ((0 < length ds) × (digits_value 10 ds < 2 ^ 64)) (digits_value 10 ds) → SomeIff (result_ok r) (digits_value 10 ds < 2 ^ 64) (digits_value 10 ds)
 some_iff_ok ds (Ok n) some h = (h.0.1, h.1)
 some_iff_ok ds (Err e) some h = λ small. h (some, small)
 
-pub parses_number : {E : Type 0} (ds : List ℕ) (r : Result ℕ E) → is_number ds ≡ true → ParsesUnsigned 64 10 ds r → SomeIff (result_ok r) (digits_value 10 ds < 2 ^ 64) (digits_value 10 ds)
+pub parses_number : {E : Type 0} (ds : List ℕ) (r : Result ℕ E) → is_digits ds ≡ true → ParsesUnsigned 64 10 ds r → SomeIff (result_ok r) (digits_value 10 ds < 2 ^ 64) (digits_value 10 ds)
+unfolding is_digits
 parses_number ds r h parsed =
     let (some, digits) = and_parts (not (nat_eq (length ds) 0)) (all_digits ds) h in
     some_iff_ok ds r (some_number (length ds) some) (parse_digits numerals 64 ds r parsed digits)

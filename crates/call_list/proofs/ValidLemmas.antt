@@ -6,16 +6,16 @@ use Rattle.std.proofs.lemmas.Nat.{mod_below}
 use Rattle.std.specs.Option.{option_and_then}
 use Rattle.ir_tree.specs.declared.types.Ty.{Ty}
 use Rattle.ir_tree.specs.declared.types.Ty.TheVariants.{I1, I8, I16, I32, I64, Ptr}
+use Rattle.ir_tree.specs.Functions.{function_at, function_number}
+use Rattle.ir_tree.specs.Types.{when, is_integer_of, literal_of, literal_of_width}
 use Rattle.ir_tree.specs.declared.types.Function.{Function}
 use Rattle.ir_tree.specs.declared.types.Module.{Module}
-use Rattle.ir_grammar.specs.Grammar.{literal_of, literal_of_width}
 use Rattle.ir_model.specs.declared.result.Call.{Call}
-use Rattle.ir_model.specs.Run.{FitsType, FitsAll, FitsFunction, IsValidCall, IsValidCallList}
-use Rattle.ir_model.specs.Step.{function_at}
+use Rattle.ir_model.specs.Run.{FitsAll, FitsFunction, IsValidCall, IsValidCallList}
 use Rattle.std.specs.Str.Parse.{digits_value}
-use Rattle.call_list.specs.Form.{when, has_minus, digits_of, Form, Passed, IsCall, Malformed, form_of}
+use Rattle.call_list.specs.Form.{has_minus, digits_of, Form, Passed, IsCall, Malformed, form_of}
 use Rattle.call_list.specs.Lines.{lines_of}
-use Rattle.call_list.specs.Meaning.{is_defined, value_of, values_of, onto, called, call_of, call_at, place_of, meaning_of_form, meaning}
+use Rattle.call_list.specs.Meaning.{is_defined, value_of, values_of, onto, called, call_of, call_at, meaning_of_form, meaning}
 use Rattle.call_list.specs.declared.line.LineError.{LineError}
 use Rattle.call_list.specs.Reading.{call_in, calls_in, meanings, Answers}
 
@@ -34,15 +34,18 @@ width_fits false n w v positive e =
     below : (n most : ℕ) → nat_lt n most ≡ true → n < most
     below n most h = grind (arith, nat_tests)
 
-literal_fits : (ty : Ty) (minus : Bool) (n v : ℕ) → literal_of ty minus n ≡ Some v → FitsType ty v
-literal_fits I1 minus n v e = width_fits minus n 1 v (omega arith) e
-literal_fits I8 minus n v e = width_fits minus n 8 v (omega arith) e
-literal_fits I16 minus n v e = width_fits minus n 16 v (omega arith) e
-literal_fits I32 minus n v e = width_fits minus n 32 v (omega arith) e
-literal_fits I64 minus n v e = width_fits minus n 64 v (omega arith) e
+is_below : (n most : ℕ) → n < most → nat_lt n most ≡ true
+is_below n most h = grind (arith, nat_tests)
+
+literal_fits : (ty : Ty) (minus : Bool) (n v : ℕ) → literal_of ty minus n ≡ Some v → is_integer_of ty v ≡ true
+literal_fits I1 minus n v e = is_below v (2 ^ 1) (width_fits minus n 1 v (omega arith) e)
+literal_fits I8 minus n v e = is_below v (2 ^ 8) (width_fits minus n 8 v (omega arith) e)
+literal_fits I16 minus n v e = is_below v (2 ^ 16) (width_fits minus n 16 v (omega arith) e)
+literal_fits I32 minus n v e = is_below v (2 ^ 32) (width_fits minus n 32 v (omega arith) e)
+literal_fits I64 minus n v e = is_below v (2 ^ 64) (width_fits minus n 64 v (omega arith) e)
 literal_fits Ptr minus n v e = absurd (cc)
 
-value_fits : (ty : Ty) (word : List ℕ) (v : ℕ) → value_of ty word ≡ Some v → FitsType ty v
+value_fits : (ty : Ty) (word : List ℕ) (v : ℕ) → value_of ty word ≡ Some v → is_integer_of ty v ≡ true
 unfolding value_of
 value_fits ty word v e = literal_fits ty (has_minus word) (digits_value 10 (digits_of word)) v e
 
@@ -88,7 +91,7 @@ placed_fits m (Some k) words c e = found_fits m k words c (function_at m k) refl
 form_fits : (m : Module) (form : Form) (c : Call) → meaning_of_form m form ≡ Ok (Some c) → IsValidCall m c
 form_fits m Passed c e = absurd (cc)
 form_fits m Malformed c e = absurd (cc)
-form_fits m (IsCall name words) c e = placed_fits m (place_of m name) words c e
+form_fits m (IsCall name words) c e = placed_fits m (function_number m name) words c e
 
 line_fits : (m : Module) (line : List ℕ) (c : Call) → meaning m line ≡ Ok (Some c) → IsValidCall m c
 unfolding meaning

@@ -2,29 +2,16 @@
 --
 -- A line of blanks alone and a line that begins with `#` are passed over. A call is `@` and a name, and then arguments,
 -- parted by blanks; a carriage return at its end doesn't count. An argument is digits, maybe behind a minus sign.
-use Rattle.std.specs.Prelude.{ℕ, Bool, true, false, not, cond, ◌&&◌, ◌||◌, List, [], ◌∷◌, Option, Some, None, length, drop, nat_le, slice_index, ◌==◌}
+use Rattle.std.specs.Prelude.{ℕ, Bool, cond, ◌&&◌, ◌||◌, List, [], ◌∷◌, Option, Some, None, drop, slice_index, ◌==◌}
 use Rattle.std.specs.List.{list_all}
-use Rattle.std.specs.Char.{is_ascii_digit}
 use Rattle.std.specs.Str.Lines.{strip_carriage_return}
-use Rattle.std.specs.Str.Parse.{digits_value}
+use Rattle.ir_tree.specs.Spelling.{is_global_name, is_digits}
+use Rattle.ir_tree.specs.Types.{when}
 use Rattle.call_list.specs.Lines.{is_blank, words_of}
 
-abbrev pub when : {A : Type 0} → Bool → A → Option A
-when test x = cond test (Some x) None
-
--- a byte of a name: from 0x21 to 0x7E, and none of `"`, `#`, `:` and `\`
-abbrev pub is_name_byte : ℕ → Bool
-is_name_byte b = nat_le 33 b && nat_le b 126 && not (b == 34) && not (b == 35) && not (b == 58) && not (b == 92)
-
-abbrev pub all_digits : List ℕ → Bool
-all_digits bytes = list_all is_ascii_digit bytes
-
--- the bytes of a function's name, which is not digits alone
-unfoldable pub is_name : List ℕ → Bool
-is_name bytes = not (length bytes == 0) && list_all is_name_byte bytes && not (all_digits bytes)
-
+-- the name that stands behind an `@`
 unfoldable pub name_of : List ℕ → Option (List ℕ)
-name_of word = when ((slice_index word 0 == 64) && is_name (drop 1 word)) (drop 1 word)
+name_of word = when ((slice_index word 0 == 64) && is_global_name (drop 1 word)) (drop 1 word)
 
 -- An argument as it is written: whether a minus sign stands before it, and the number that its digits write
 abbrev pub has_minus : List ℕ → Bool
@@ -33,11 +20,8 @@ has_minus word = slice_index word 0 == 45
 abbrev pub digits_of : List ℕ → List ℕ
 digits_of word = cond (has_minus word) (drop 1 word) word
 
-abbrev pub is_number : List ℕ → Bool
-is_number digits = not (length digits == 0) && all_digits digits
-
 unfoldable pub is_argument : List ℕ → Bool
-is_argument word = is_number (digits_of word)
+is_argument word = is_digits (digits_of word)
 
 -- A line's form
 pub data Form : Type 0 where

@@ -1,27 +1,23 @@
 -- What a line of a calls text means for a module: no call, a call, or a fault.
-use Rattle.std.specs.Prelude.{◌≡◌, ℕ, Bool, true, false, not, cond, List, [], ◌∷◌, Option, Some, None, Result, Ok, Err, length, map, position, slice_get, ◌==◌, ⊤}
+use Rattle.std.specs.Prelude.{◌≡◌, ℕ, Bool, not, List, [], ◌∷◌, Option, Some, None, Result, Ok, Err, ⊤}
 use Rattle.std.specs.Option.{option_map, option_and_then, ok_or}
 use Rattle.std.specs.Str.Parse.{digits_value}
-use Rattle.ir_tree.specs.Names.{same}
+use Rattle.ir_tree.specs.Functions.{is_declared, function_at, function_number}
+use Rattle.ir_tree.specs.Types.{when, literal_of}
 use Rattle.ir_tree.specs.declared.types.Ty.{Ty}
 use Rattle.ir_tree.specs.declared.types.Function.{Function}
 use Rattle.ir_tree.specs.declared.types.Module.{Module}
 use Rattle.ir_model.specs.declared.result.Call.{Call}
-use Rattle.ir_grammar.specs.Grammar.{literal_of}
 use Rattle.call_list.specs.declared.line.LineError.{LineError}
 use Rattle.call_list.specs.declared.line.LineError.TheVariants as fault
-use Rattle.call_list.specs.Form.{when, has_minus, digits_of, Form, Passed, IsCall, Malformed, form_of}
-
--- the number of the function of this name
-abbrev pub place_of : Module → List ℕ → Option ℕ
-place_of m name = position (same name) (map (λ f. f.name) m.functions)
+use Rattle.call_list.specs.Form.{has_minus, digits_of, Form, Passed, IsCall, Malformed, form_of}
 
 -- a function with blocks is defined
 abbrev pub is_defined : Function → Bool
-is_defined f = not (length f.blocks == 0)
+is_defined f = not (is_declared f)
 
 abbrev pub defined_at : Module → ℕ → Option Function
-defined_at m k = option_and_then (λ f. when (is_defined f) f) (slice_get m.functions k)
+defined_at m k = option_and_then (λ f. when (is_defined f) f) (function_at m k)
 
 -- an argument as a value of the parameter's type, none outside the range of its literals
 unfoldable pub value_of : Ty → List ℕ → Option ℕ
@@ -53,7 +49,7 @@ call_at m (Some k) words = call_of k (defined_at m k) words
 abbrev pub meaning_of_form : Module → Form → Result (Option Call) LineError
 meaning_of_form m Passed = Ok None
 meaning_of_form m Malformed = Err fault.BadLine
-meaning_of_form m (IsCall name words) = call_at m (place_of m name) words
+meaning_of_form m (IsCall name words) = call_at m (function_number m name) words
 
 unfoldable pub meaning : Module → List ℕ → Result (Option Call) LineError
 meaning m line = meaning_of_form m (form_of line)

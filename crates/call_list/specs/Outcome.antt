@@ -1,10 +1,10 @@
 -- The text of a call's outcome: a line with the call's number and its function's name, what the call printed, and a
 -- line that says how it ended.
-use Rattle.std.specs.Prelude.{ℕ, Bool, cond, ◌&&◌, ◌||◌, List, [], ◌∷◌, ◌++◌, Option, Some, None, codes, decimal, nat_le, ◌==◌, slice_index}
-use Rattle.std.specs.Char.{is_ascii_digit}
+use Rattle.std.specs.Prelude.{ℕ, List, [], ◌++◌, Option, Some, None, codes, decimal}
 use Rattle.std.specs.Fmt.{signed_decimal}
-use Rattle.std.specs.List.{list_all}
 use Rattle.ir_value.specs.Integer.{signed_of}
+use Rattle.ir_tree.specs.Spelling.{global_text}
+use Rattle.ir_tree.specs.Types.{width_of}
 use Rattle.ir_tree.specs.declared.types.Ty.{Ty}
 use Rattle.ir_tree.specs.declared.types.Ret.{Ret}
 use Rattle.ir_tree.specs.declared.types.Ret.TheVariants.{Void, Value}
@@ -14,21 +14,6 @@ use Rattle.ir_model.specs.declared.result.TrapKind.TheVariants as trap
 use Rattle.ir_model.specs.declared.result.End.{End}
 use Rattle.ir_model.specs.declared.result.End.TheVariants.{Returned, Trapped, StepsSpent}
 use Rattle.ir_model.specs.declared.result.CallResult.{CallResult}
-use Rattle.ir_grammar.specs.Grammar.{width_of}
-
--- a byte that begins a plain name: a letter or one of `$`, `-`, `.` and `_`
-abbrev pub begins_plain : ℕ → Bool
-begins_plain b = (nat_le 65 b && nat_le b 90) || (nat_le 97 b && nat_le b 122) || (b == 36) || (b == 45) || (b == 46) || (b == 95)
-
-abbrev pub is_plain_byte : ℕ → Bool
-is_plain_byte b = begins_plain b || is_ascii_digit b
-
-unfoldable pub is_plain : List ℕ → Bool
-is_plain name = begins_plain (slice_index name 0) && list_all is_plain_byte name
-
--- a name prints in quotes where it is not plain
-unfoldable pub name_text : List ℕ → List ℕ
-name_text name = cond (is_plain name) name (34 ∷ name ++ 34 ∷ [])
 
 -- an integer in signed decimal of its width, an address unsigned
 abbrev pub shown : Option ℕ → ℕ → List ℕ
@@ -61,7 +46,7 @@ end_text ret (Trapped kind) = codes "trapped " ++ trap_text kind ++ codes "\n"
 end_text ret StepsSpent = codes "steps spent\n"
 
 unfoldable pub outcome_text : Function → ℕ → CallResult → List ℕ
-outcome_text f number ended = codes "call " ++ decimal number ++ codes " @" ++ name_text f.name ++ codes "\n" ++ ended.printed ++ end_text f.ret ended.end
+outcome_text f number ended = codes "call " ++ decimal number ++ codes " @" ++ global_text f.name ++ codes "\n" ++ ended.printed ++ end_text f.ret ended.end
 
 abbrev pub outcome_of : Option Function → ℕ → CallResult → List ℕ
 outcome_of None number ended = []

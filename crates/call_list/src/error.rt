@@ -2,6 +2,7 @@
 ghost use Rattle.call_list.specs.declared.error.CallsError.TheVariants as errors;
 ghost use Rattle.std.specs.Prelude.{◌≡◌};
 
+use pgo_base::NoMemory;
 use std::alloc::AllocError;
 use thiserror::Error;
 
@@ -34,6 +35,14 @@ impl From<AllocError> for CallsError {
     ghost from_gives = { λ _ e. e ≡ errors.NoMemory };
 
     fn from(_: AllocError) -> CallsError {
+        CallsError::NoMemory
+    }
+}
+
+impl From<NoMemory> for CallsError {
+    ghost from_gives = { λ _ e. e ≡ errors.NoMemory };
+
+    fn from(_: NoMemory) -> CallsError {
         CallsError::NoMemory
     }
 }

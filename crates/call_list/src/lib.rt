@@ -10,7 +10,7 @@ mod reading;
 mod values;
 
 pub use error::CallsError;
-pub use outcomes::{outcome, push_name, trap_text};
+pub use outcomes::{outcome, trap_text};
 pub use reading::read_calls;
 
 #[cfg(test)]

@@ -1,16 +1,18 @@
 // What one line of a calls text means.
-ghost use Rattle.std.specs.Prelude.{◌≡◌, ◌<◌, true, map, length, All, IfSome};
+ghost use Rattle.std.specs.Prelude.{◌≡◌, true, map, All};
 ghost use Rattle.std.specs.List.{list_all};
 ghost use Rattle.std.specs.Str.Lines.{strip_carriage_return};
 ghost use Rattle.call_list.specs.declared.line.LineError.TheVariants as fault;
 ghost use Rattle.call_list.specs.Lines.{is_blank};
 ghost use Rattle.call_list.specs.Form.{is_passed, is_argument};
-ghost use Rattle.call_list.specs.Meaning.{place_of, call_at, meaning, Means};
+ghost use Rattle.ir_tree.specs.Functions.{numbered, function_number};
+ghost use Rattle.call_list.specs.Meaning.{call_at, meaning, Means};
 
 use crate::lines::{is_blank, words};
 use crate::values::{is_argument, name_in, values};
-use ir_check::Checked;
+use ir_check::{Checked, accepted_are_small};
 use ir_model::Call;
+use ir_tree::Numbering;
 use std::alloc::{AllocError, AllocFailed, Global};
 
 /// Why a line gives neither a call nor nothing.
@@ -79,13 +81,14 @@ fn are_arguments(words: &[&[u8]]) -> bool
 }
 
 // The number of the function of this name.
-fn number_of(module: &Checked, name: &[u8]) -> Option<u32>
-    ensures place { result ≡ place_of module.now name.now }
-    ensures within { IfSome result (λ k. k < length module.now.functions) }
+fn number_of(module: &Checked, functions: &Numbering, name: &[u8]) -> Option<u32>
+    requires { functions.now ≡ numbered module.now.functions }
+    ensures { result ≡ function_number module.now name.now }
 {
     // an accepted module has at most 65,536 functions
+    accepted_are_small();
     let _accepted = module.module();
-    let place = module.function_at(name)?;
+    let place = functions.find(name)?;
     let number = place as u32;
     Some(number)
 }
@@ -94,17 +97,21 @@ fn number_of(module: &Checked, name: &[u8]) -> Option<u32>
 fn call(
     alloc: Global,
     module: &Checked,
+    functions: &Numbering,
     name: &[u8],
     arguments: &[&[u8]],
 ) -> Result<Option<Call>, LineError>
-    requires { All (λ w. is_argument w.now ≡ true) arguments.now }
-    ensures { Means result (call_at module.now (place_of module.now name.now) (map (λ w. w.now) arguments.now)) }
+    requires numbered { functions.now ≡ numbered module.now.functions }
+    requires arguments { All (λ w. is_argument w.now ≡ true) arguments.now }
+    ensures { Means result (call_at module.now (function_number module.now name.now) (map (λ w. w.now) arguments.now)) }
 {
-    let Some(number) = number_of(module, name) else {
+    let Some(number) = number_of(module, functions, name) else {
         return Err(LineError::NoFunction);
     };
-    let function = &module.module().functions.as_slice()[number as usize];
-    if function.blocks.as_slice().is_empty() {
+    let Some(function) = functions.get(number as usize) else {
+        return Err(LineError::NoFunction);
+    };
+    if function.is_declared() {
         return Err(LineError::NoFunction);
     }
     let args = values(alloc, function.params.as_slice(), arguments)?;
@@ -116,7 +123,13 @@ fn call(
 
 /// What the line means for the module: nothing, a call, or a fault.
 #[tactic(auto, unfolding(crate::specs::Meaning::meaning, crate::specs::Form::form_of))]
-pub fn read_line(alloc: Global, module: &Checked, line: &[u8]) -> Result<Option<Call>, LineError>
+pub fn read_line(
+    alloc: Global,
+    module: &Checked,
+    functions: &Numbering,
+    line: &[u8],
+) -> Result<Option<Call>, LineError>
+    requires { functions.now ≡ numbered module.now.functions }
     ensures { Means result (meaning module.now line.now) }
 {
     if is_passed(line) {
@@ -131,7 +144,7 @@ pub fn read_line(alloc: Global, module: &Checked, line: &[u8]) -> Result<Option<
     match name_in(words[0]) {
         Some(name) => {
             if are_arguments(arguments) {
-                call(alloc, module, name, arguments)
+                call(alloc, module, functions, name, arguments)
             } else {
                 Err(LineError::BadLine)
             }

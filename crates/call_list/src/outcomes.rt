@@ -1,84 +1,15 @@
 // The text of a call's outcome.
 ghost use Rattle.std.specs.Prelude.{◌≡◌, ◌++◌, ◌^◌, ◌-◌, ◌-ℤ◌, ◌≤ℤ◌, pos, nat_lt, if◌then◌else◌, decimal, codes, OnOk, IfOk, IfSome, slice_get};
 ghost use Rattle.std.specs.Fmt.{signed_decimal};
-ghost use Rattle.std.specs.List.{list_all};
 ghost use Rattle.std.specs.Option.{option_map};
-ghost use Rattle.ir_grammar.specs.Grammar.{width_of};
-ghost use Rattle.call_list.specs.Outcome.{begins_plain, is_plain_byte, is_plain, name_text, value_text, trap_text, returned_text, end_text, outcome_text, outcome_of};
+ghost use Rattle.ir_tree.specs.Types.{width_of};
+ghost use Rattle.call_list.specs.Outcome.{value_text, trap_text, returned_text, end_text, outcome_text, outcome_of};
 
-use ir_check::Checked;
 use ir_model::{Call, CallResult, End, TrapKind};
-use ir_tree::{Function, Ret, Ty};
-use itoa::Buffer;
+use ir_tree::{Function, Numbering, Ret, Ty, push_global_name};
 use pgo_base::NoMemory;
+use push_text::{push, push_number, push_signed};
 use std::alloc::Global;
-
-fn begins_plain(byte: u8) -> bool
-    ensures { result ≡ begins_plain byte }
-{
-    (b'A'..=b'Z').contains(&byte)
-        || (b'a'..=b'z').contains(&byte)
-        || byte == b'$'
-        || byte == b'-'
-        || byte == b'.'
-        || byte == b'_'
-}
-
-fn is_plain_byte(byte: u8) -> bool
-    ensures { result ≡ is_plain_byte byte }
-{
-    begins_plain(byte) || byte.is_ascii_digit()
-}
-
-fn all_plain(name: &[u8]) -> bool
-    ensures { result ≡ list_all is_plain_byte name.now }
-{
-    name.iter().all(|byte| is_plain_byte(*byte))
-}
-
-// Whether the name is written without quotes.
-#[tactic(auto, unfolding(crate::specs::Outcome::is_plain))]
-fn is_plain(name: &[u8]) -> bool
-    ensures { result ≡ is_plain name.now }
-{
-    !name.is_empty() && begins_plain(name[0]) && all_plain(name)
-}
-
-fn push(out: &mut Vec<u8>, bytes: &[u8]) -> Result<(), NoMemory>
-    ensures { OnOk result (out.new.items ≡ out.old.items ++ bytes.now) }
-{
-    out.extend_from_slice(bytes)?;
-    Ok(())
-}
-
-/// Appends a name as the assembly writes it behind `@` or `%`: in quotes where it is not plain (LLVM
-/// Language Reference, "Identifiers").
-#[tactic(auto, unfolding(crate::specs::Outcome::name_text))]
-pub fn push_name(out: &mut Vec<u8>, name: &[u8]) -> Result<(), NoMemory>
-    ensures { OnOk result (out.new.items ≡ out.old.items ++ name_text name.now) }
-{
-    if is_plain(name) {
-        push(out, name)
-    } else {
-        push(out, b"\"")?;
-        push(out, name)?;
-        push(out, b"\"")
-    }
-}
-
-fn push_number(out: &mut Vec<u8>, number: u64) -> Result<(), NoMemory>
-    ensures { OnOk result (out.new.items ≡ out.old.items ++ decimal number) }
-{
-    let mut buffer = Buffer::new();
-    push(out, buffer.format(number).as_bytes())
-}
-
-fn push_signed(out: &mut Vec<u8>, number: i128) -> Result<(), NoMemory>
-    ensures { OnOk result (out.new.items ≡ out.old.items ++ signed_decimal number) }
-{
-    let mut buffer = Buffer::new();
-    push(out, buffer.format(number).as_bytes())
-}
 
 // The first integer of the type that reads as negative, and how many integers it has.
 fn halves(ty: Ty) -> Option<(u64, i128)>
@@ -179,7 +110,7 @@ fn push_outcome(
     push(out, b"call ")?;
     push_number(out, u64::from(number))?;
     push(out, b" @")?;
-    push_name(out, function.name.bytes())?;
+    push_global_name(out, function.name.bytes())?;
     push(out, b"\n")?;
     push(out, ended.printed.as_slice())?;
     push_end(out, function.ret, ended.end)
@@ -187,18 +118,17 @@ fn push_outcome(
 
 /// The text of a call's outcome: a line with the call's number and its function, what the call
 /// printed, and a line that says how it ended. A value is in signed decimal of its width, an address
-/// unsigned. Empty where the module has no function of the call's number.
+/// unsigned. Empty where no function has the call's number.
 pub fn outcome(
     alloc: Global,
-    module: &Checked,
+    functions: &Numbering,
     number: u32,
     call: &Call,
     ended: &CallResult,
 ) -> Result<Vec<u8>, NoMemory>
-    ensures { IfOk result (λ text. text.items ≡ outcome_of (slice_get module.now.functions call.now.function) number ended.now) }
+    ensures { IfOk result (λ text. text.items ≡ outcome_of (slice_get functions.now call.now.function) number ended.now) }
 {
     let mut out = Vec::new(alloc);
-    let functions = module.module().functions.as_slice();
     if let Some(function) = functions.get(call.function as usize) {
         push_outcome(&mut out, function, number, ended)?;
     }

@@ -1,6 +1,7 @@
 // Reading a calls text, line by line.
 ghost use Rattle.std.specs.Prelude.{◌≡◌, ◌≤◌, IfOk, length};
 ghost use Rattle.ir_model.specs.Run.{IsValidCallList};
+ghost use Rattle.ir_tree.specs.Functions.{numbered};
 ghost use Rattle.call_list.specs.Reading.{meanings, Answers, items_of};
 ghost use Rattle.call_list.specs.Walk.{at_line, found_none, walk, Walks};
 
@@ -10,6 +11,7 @@ use crate::line::{LineError, read_line};
 use crate::lines::first_line;
 use ir_check::Checked;
 use ir_model::Call;
+use ir_tree::Numbering;
 use std::alloc::Global;
 
 const TEXT_MOST: usize = 16_777_216;
@@ -26,8 +28,14 @@ fn at_line(error: LineError, line: u32) -> CallsError
 }
 
 // The calls of the lines up to the first that has a fault.
-fn calls_of(alloc: Global, module: &Checked, text: &[u8]) -> Result<Calls, CallsError>
-    requires { length text.now ≤ 16777216 }
+fn calls_of(
+    alloc: Global,
+    module: &Checked,
+    functions: &Numbering,
+    text: &[u8],
+) -> Result<Calls, CallsError>
+    requires short { length text.now ≤ 16777216 }
+    requires numbered { functions.now ≡ numbered module.now.functions }
     ensures { Walks result (walk 1 found_none (meanings module.now text.now)) }
 {
     let mut calls = Calls::new(alloc);
@@ -35,7 +43,7 @@ fn calls_of(alloc: Global, module: &Checked, text: &[u8]) -> Result<Calls, Calls
     let mut rest = text;
     'lines: loop {
         let (here, behind) = first_line(rest);
-        match read_line(alloc, module, here) {
+        match read_line(alloc, module, functions, here) {
             Ok(call) => calls.add(call)?,
             Err(error) => return Err(at_line(error, line)),
         }
@@ -45,6 +53,15 @@ fn calls_of(alloc: Global, module: &Checked, text: &[u8]) -> Result<Calls, Calls
         }
         line += 1;
     }
+}
+
+// The same, with the functions of the module by their numbers.
+fn found_calls(alloc: Global, module: &Checked, text: &[u8]) -> Result<Calls, CallsError>
+    requires { length text.now ≤ 16777216 }
+    ensures { Walks result (walk 1 found_none (meanings module.now text.now)) }
+{
+    let functions = Numbering::of(alloc, module.module().functions.as_slice())?;
+    calls_of(alloc, module, &functions, text)
 }
 
 /// The calls that the text makes, in order. Lines of blanks and lines that begin with `#` are
@@ -57,7 +74,7 @@ pub fn read_calls(alloc: Global, module: &Checked, text: &[u8]) -> Result<Vec<Ca
     if text.len() > TEXT_MOST {
         return Err(CallsError::TextLimit { length: text.len() });
     }
-    match calls_of(alloc, module, text) {
+    match found_calls(alloc, module, text) {
         Ok(Calls { count, kept }) => {
             if count as usize > CALLS_MOST {
                 Err(CallsError::TooMany { found: count })

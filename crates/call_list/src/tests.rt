@@ -2,7 +2,7 @@
 use super::*;
 use ir_check::Checked;
 use ir_model::{CallResult, End};
-use ir_tree::{Block, Function, Module, Name, Operand, Ret, Seq, Term, Ty};
+use ir_tree::{Block, Function, Module, Name, Numbering, Operand, Ret, Seq, Term, Ty};
 use std::alloc::Global;
 use std::test::Fail;
 
@@ -72,7 +72,8 @@ fn an_outcome_is_written(rt: HostRuntime) -> Result<(), Fail> {
         printed: Seq::of(b"4\n".to_vec(alloc)?),
         end: End::Returned(Some(18446744073709551615)),
     };
-    let text = outcome(alloc, &module, 1, &calls[0], &ended)?;
+    let functions = Numbering::of(alloc, module.module().functions.as_slice())?;
+    let text = outcome(alloc, &functions, 1, &calls[0], &ended)?;
     assert_eq!(rt; text.as_slice(), b"call 1 @g\n4\nreturned -1\n".as_slice());
     Ok(())
 }

@@ -1,41 +1,16 @@
 // Names and arguments.
 ghost use Rattle.std.specs.Prelude.{◌≡◌, ◌<◌, ◌^◌, true, map, All, SomeIff};
-ghost use Rattle.std.specs.List.{list_all};
 ghost use Rattle.std.specs.Option.{option_copied, ok_or};
 ghost use Rattle.std.specs.Str.Parse.{digits_value};
-ghost use Rattle.call_list.specs.Form.{is_name_byte, all_digits, is_name, name_of, is_argument, is_number, has_minus, digits_of};
+ghost use Rattle.ir_tree.specs.Spelling.{is_digits};
+ghost use Rattle.call_list.specs.Form.{name_of, is_argument, has_minus, digits_of};
 ghost use Rattle.call_list.specs.Meaning.{value_of, values_of, Means};
 ghost use Rattle.call_list.specs.declared.line.LineError.TheVariants as fault;
 
 use crate::line::LineError;
-use ir_tree::{Name, Seq, Ty};
+use ir_tree::{Name, Seq, Ty, is_digits, is_global_name};
 use std::alloc::Global;
 use std::str;
-
-fn is_name_byte(byte: u8) -> bool
-    ensures { result ≡ is_name_byte byte }
-{
-    (33..=126).contains(&byte) && byte != b'"' && byte != b'#' && byte != b':' && byte != b'\\'
-}
-
-fn all_name_bytes(bytes: &[u8]) -> bool
-    ensures { result ≡ list_all is_name_byte bytes.now }
-{
-    bytes.iter().all(|byte| is_name_byte(*byte))
-}
-
-fn all_digits(bytes: &[u8]) -> bool
-    ensures { result ≡ all_digits bytes.now }
-{
-    bytes.iter().all(|byte| byte.is_ascii_digit())
-}
-
-#[tactic(auto, unfolding(crate::specs::Form::is_name))]
-fn is_name(bytes: &[u8]) -> bool
-    ensures { result ≡ is_name bytes.now }
-{
-    !bytes.is_empty() && all_name_bytes(bytes) && !all_digits(bytes)
-}
 
 /// The name that a word has behind its `@`.
 #[tactic(auto, unfolding(crate::specs::Form::name_of))]
@@ -46,13 +21,11 @@ pub fn name_in(word: &[u8]) -> Option<&[u8]>
         return None;
     }
     let name = &word[1..];
-    if is_name(name) { Some(name) } else { None }
-}
-
-fn is_number(digits: &[u8]) -> bool
-    ensures { result ≡ is_number digits.now }
-{
-    !digits.is_empty() && all_digits(digits)
+    if is_global_name(name) {
+        Some(name)
+    } else {
+        None
+    }
 }
 
 // Whether a minus sign stands first, and what stands behind it.
@@ -73,12 +46,12 @@ pub fn is_argument(word: &[u8]) -> bool
     ensures { result ≡ is_argument word.now }
 {
     let (_, digits) = sign_and_digits(word);
-    is_number(digits)
+    is_digits(digits)
 }
 
 // The number that the digits write, none from 2^64 on.
 fn magnitude(digits: &[u8]) -> Option<u64>
-    requires { is_number digits.now ≡ true }
+    requires { is_digits digits.now ≡ true }
     ensures { SomeIff result (digits_value 10 digits.now < 2 ^ 64) (digits_value 10 digits.now) }
 {
     match str::from_utf8(digits) {
@@ -95,7 +68,7 @@ pub fn value(ty: Ty, word: &[u8]) -> Option<u64>
 {
     let (minus, digits) = sign_and_digits(word);
     let magnitude = magnitude(digits)?;
-    ir_grammar::literal(ty, minus, magnitude)
+    ty.literal(minus, magnitude)
 }
 
 /// A value for each parameter, of the words in their order.

@@ -1,5 +1,10 @@
+pub mod Built
+pub mod Cuts
+pub mod HashText
 pub mod Listed
 pub mod Members
+pub mod Sites
 pub mod Targets
 pub mod Whole
 pub mod Worked
+pub mod WorkedText

@@ -1,8 +1,8 @@
 -- Marked blocks and their nodes.
 use Rattle.std.proofs.Common.{◌≡◌, ℕ, zero, suc, ◌+◌, ◌≤◌, Bool, true, false, List, [], ◌∷◌, length, get_or, Some, slice_get, refl, sym, ap, ◌∙◌, arith}
 use Rattle.std.proofs.lemmas.Option.{none-some, same_Some}
-use Rattle.block_search.specs.Reach.{is_marked}
-use Rattle.cfg_edges.specs.Nodes.{marked_from, numbers}
+use Rattle.ir_tree.specs.Reach.{is_marked}
+use Rattle.ir_tree.specs.Edges.{marked_from, numbers}
 
 pub numbers_size : (n : ℕ) (ms : List Bool) → length (numbers n ms) ≡ length ms
 numbers_size n [] = refl

@@ -3,10 +3,10 @@ use Rattle.std.proofs.Common.{◌≡◌, ℕ, zero, suc, ◌+◌, ◌<◌, ◌�
 use Rattle.std.specs.Prelude.{max}
 use Rattle.std.proofs.lemmas.List.{length-append}
 use Rattle.std.proofs.lemmas.Option.{none-some, same_Some, slice_get-get_or}
-use Rattle.block_search.specs.Reach.{row}
-use Rattle.cfg_edges.specs.Nodes.{marked_from}
-use Rattle.cfg_edges.specs.Edges.{branch_edge, exit_edge, row_edges, block_edges, edges_out_of}
-use Rattle.cfg_edges.specs.declared.edge.Edge.{Edge}
+use Rattle.ir_tree.specs.Reach.{row}
+use Rattle.ir_tree.specs.Edges.{marked_from}
+use Rattle.ir_tree.specs.Edges.{branch_edge, exit_edge, row_edges, block_edges, edges_out_of}
+use Rattle.ir_tree.specs.declared.edge.Edge.{Edge}
 use Rattle.cfg_edges.proofs.Listed.{is_listed}
 
 in_append : (xs ys : List Edge) (k : ℕ) (e : Edge) → slice_get (xs ++ ys) k ≡ Some e → (slice_get xs k ≡ Some e) ⊎ ((j : ℕ) × (slice_get ys j ≡ Some e))
@@ -53,7 +53,7 @@ enough_edges nodes rs (b ∷ bs) =
 
 -- ---- each successor has an edge
 
-at_front : (xs ys : List Edge) (k : ℕ) (e : Edge) → slice_get xs k ≡ Some e → slice_get (xs ++ ys) k ≡ Some e
+pub at_front : (xs ys : List Edge) (k : ℕ) (e : Edge) → slice_get xs k ≡ Some e → slice_get (xs ++ ys) k ≡ Some e
 at_front [] ys k e h = absurd (none-some e h)
 at_front (x ∷ xs) ys zero e h = h
 at_front (x ∷ xs) ys (suc k) e h = at_front xs ys k e h
@@ -126,16 +126,14 @@ apart_from nodes rs k (true ∷ ms) i j d e hd he b p =
 
 -- ---- each way out of a block has an edge
 
-out_at : (nodes : List ℕ) (b : ℕ) (r : List ℕ) (p : ℕ) → p < max 1 (length r) → (e : Edge) × (slice_get (block_edges nodes b r) p ≡ Some e)
+pub out_at : (nodes : List ℕ) (b : ℕ) (r : List ℕ) (p : ℕ) → p < max 1 (length r) → (e : Edge) × (slice_get (block_edges nodes b r) p ≡ Some e)
 out_at nodes b [] zero h = (exit_edge nodes b, refl)
 out_at nodes b [] (suc p) h = absurd (omega (arith, h))
 out_at nodes b (t ∷ ts) p h =
     let u : ℕ = get_or (t ∷ ts) p 0 in
     (branch_edge nodes b p u, at_block nodes b (t ∷ ts) p u (slice_get-get_or (t ∷ ts) p 0 (omega (arith, h))))
 
-pub each_out : (nodes : List ℕ) (rs : List (List ℕ)) (blocks : List ℕ) (i b p : ℕ) → slice_get blocks i ≡ Some b → p < max 1 (length (row rs b)) → (k : ℕ) × (e : Edge) × (slice_get (edges_out_of nodes rs blocks) k ≡ Some e) × (e.block ≡ Some b) × (e.position ≡ p)
-each_out nodes rs blocks i b p is h =
-    let o = out_at nodes b (row rs b) p h in
-    let k = at_blocks nodes rs blocks i b p o.0 is o.1 in
-    let at = edge_at nodes b (row rs b) p o.0 o.1 in
-    (k.0, o.0, k.1, at.0, at.1)
+pub behind_at : (xs ys : List Edge) (n k : ℕ) → length xs ≡ n → slice_get (xs ++ ys) (n + k) ≡ slice_get ys k
+behind_at [] ys n k size = ap (λ (j : ℕ). slice_get ys j) (let e : n + k ≡ k = omega (arith, size) in e)
+behind_at (x ∷ xs) ys zero k size = absurd (omega (arith, size))
+behind_at (x ∷ xs) ys (suc n) k size = ap (λ (j : ℕ). slice_get (x ∷ xs ++ ys) j) (let e : suc n + k ≡ suc (n + k) = omega arith in e) ∙ behind_at xs ys n k (omega (arith, size))

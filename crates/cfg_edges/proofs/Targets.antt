@@ -7,20 +7,22 @@ use Rattle.std.proofs.lemmas.List.{length-map, get_or_read}
 use Rattle.std.proofs.lemmas.List.Sums.{sum_by-cons}
 use Rattle.std.proofs.lemmas.List.Quantifiers.{position-Some}
 use Rattle.std.proofs.lemmas.Option.{none-some, same_Some, slice_get-map, slice_get-get_or}
-use Rattle.block_search.specs.Reach.{row, AreRows}
+use Rattle.ir_tree.specs.Reach.{row, AreRows}
 use Rattle.ir_tree.specs.Names.{same, Indexes}
 use Rattle.ir_tree.specs.Successors.{successors}
 use Rattle.ir_tree.specs.declared.index.Index.{Index}
 use Rattle.ir_tree.specs.declared.types.Block.{Block}
 use Rattle.ir_tree.specs.declared.types.Function.{Function}
-use Rattle.cfg_edges.specs.Blocks.{labels, block_named, row_of, rows, found_all, HasFewPlaces}
-use Rattle.cfg_edges.specs.Edges.{block_edges, edges_out_of}
-use Rattle.cfg_edges.specs.declared.edge.Edge.{Edge}
-use Rattle.cfg_edges.specs.Graph.{edges_out, has_targets, HasGraph, successors_of}
+use Rattle.ir_tree.specs.Edges.{labels, block_place, row_of, rows}
+use Rattle.cfg_edges.specs.Blocks.{found_all, HasFewPlaces}
+use Rattle.ir_tree.specs.Edges.{block_edges, edges_out_of}
+use Rattle.ir_tree.specs.declared.edge.Edge.{Edge}
+use Rattle.ir_tree.specs.Graphs.{ways_out, has_targets, HasGraph}
+use Rattle.cfg_edges.specs.Graph.{successors_of}
 
 -- the block that a label names, the entry where no block has it
 abbrev pub place : List Block → List ℕ → ℕ
-place blocks to = unwrap_or (block_named blocks to) 0
+place blocks to = unwrap_or (block_place blocks to) 0
 
 -- ---- by the index of the labels
 
@@ -66,7 +68,7 @@ all_at q [] all i x h = absurd (none-some x h)
 all_at q (y ∷ ys) all zero x h = subst (λ z. q z ≡ true) (same_Some y x h) (both_true (q y) (list_all q ys) all).0
 all_at q (y ∷ ys) all (suc i) x h = all_at q ys (both_true (q y) (list_all q ys) all).1 i x h
 
-targets_in : (all blocks : List Block) → list_all (has_targets all) blocks ≡ true → (b : ℕ) → list_all (λ to. is_some (block_named all to)) (successors_of blocks b) ≡ true
+targets_in : (all blocks : List Block) → list_all (has_targets all) blocks ≡ true → (b : ℕ) → list_all (λ to. is_some (block_place all to)) (successors_of blocks b) ≡ true
 targets_in all [] h b = refl
 targets_in all (block ∷ blocks) h zero = (both_true (has_targets all block) (list_all (has_targets all) blocks) h).0
 targets_in all (block ∷ blocks) h (suc b) = targets_in all blocks (both_true (has_targets all block) (list_all (has_targets all) blocks) h).1 b
@@ -75,14 +77,14 @@ some_place : (o : Option ℕ) → is_some o ≡ true → o ≡ Some (unwrap_or o
 some_place None h = absurd (grind arith)
 some_place (Some b) h = refl
 
-pub named_place : (blocks : List Block) → list_all (has_targets blocks) blocks ≡ true → (b p : ℕ) (to : List ℕ) → slice_get (successors_of blocks b) p ≡ Some to → block_named blocks to ≡ Some (place blocks to)
-named_place blocks h b p to at = some_place (block_named blocks to) (all_at (λ name. is_some (block_named blocks name)) (successors_of blocks b) (targets_in blocks blocks h b) p to at)
+pub named_place : (blocks : List Block) → list_all (has_targets blocks) blocks ≡ true → (b p : ℕ) (to : List ℕ) → slice_get (successors_of blocks b) p ≡ Some to → block_place blocks to ≡ Some (place blocks to)
+named_place blocks h b p to at = some_place (block_place blocks to) (all_at (λ name. is_some (block_place blocks name)) (successors_of blocks b) (targets_in blocks blocks h b) p to at)
 
 module _ (f : Function) (graph : HasGraph f) where
   pub target_within : (b p t : ℕ) → slice_get (row (rows f.blocks) b) p ≡ Some t → t < length (rows f.blocks)
   target_within b p t h =
       let n = named_at f.blocks b p t h in
-      let at : block_named f.blocks n.0 ≡ Some (place f.blocks n.0) = named_place f.blocks graph.targets b p n.0 n.1 in
+      let at : block_place f.blocks n.0 ≡ Some (place f.blocks n.0) = named_place f.blocks graph.targets b p n.0 n.1 in
       let within : place f.blocks n.0 < length (labels f.blocks) = (position-Some (same n.0) (labels f.blocks) (place f.blocks n.0) [] at).0 in
       omega (arith, n.2, within, length-map f.blocks (λ block. block.label), rows_size f.blocks)
 
@@ -91,16 +93,16 @@ module _ (f : Function) (graph : HasGraph f) where
 
 -- ---- so few
 
-pub blocks_below : (blocks : List Block) → length blocks ≤ sum_by edges_out blocks
+pub blocks_below : (blocks : List Block) → length blocks ≤ sum_by ways_out blocks
 blocks_below [] = omega arith
-blocks_below (block ∷ blocks) = omega (arith, blocks_below blocks, sum_by-cons edges_out block blocks)
+blocks_below (block ∷ blocks) = omega (arith, blocks_below blocks, sum_by-cons ways_out block blocks)
 
-pub successors_below : (blocks : List Block) (b : ℕ) → length (successors_of blocks b) ≤ sum_by edges_out blocks
+pub successors_below : (blocks : List Block) (b : ℕ) → length (successors_of blocks b) ≤ sum_by ways_out blocks
 successors_below [] b = omega arith
-successors_below (block ∷ blocks) zero = omega (arith, sum_by-cons edges_out block blocks)
-successors_below (block ∷ blocks) (suc b) = omega (arith, successors_below blocks b, sum_by-cons edges_out block blocks)
+successors_below (block ∷ blocks) zero = omega (arith, sum_by-cons ways_out block blocks)
+successors_below (block ∷ blocks) (suc b) = omega (arith, successors_below blocks b, sum_by-cons ways_out block blocks)
 
-pub row_below : (blocks : List Block) (b : ℕ) → length (row (rows blocks) b) ≤ sum_by edges_out blocks
+pub row_below : (blocks : List Block) (b : ℕ) → length (row (rows blocks) b) ≤ sum_by ways_out blocks
 row_below blocks b =
     omega (arith, successors_below blocks b, ap (λ (r : List ℕ). length r) (row_at blocks b), length-map (successors_of blocks b) (place blocks))
 

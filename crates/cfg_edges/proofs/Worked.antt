@@ -1,29 +1,37 @@
--- The worked loop is the body of a function with a graph.
+-- The worked blocks are those of functions with a graph.
 use Rattle.std.proofs.Common.{◌≡◌, ◌<◌, ◌+◌, List, [], ◌∷◌, ◌++◌, length, ◌∙◌, refl, sym, subst, sum_by, true, arith}
 use Rattle.std.specs.List.{list_all}
+use Rattle.std.specs.Prelude.{Result, Ok, Err, IfOk}
+use Rattle.ir_tree.specs.Graphs.{count_in, ways_out, has_targets, is_select, is_site, HasGraph}
 use Rattle.ir_tree.specs.declared.types.Block.{Block}
 use Rattle.ir_tree.specs.declared.types.Function.{Function}
-use Rattle.cfg_edges.specs.Examples.{entry_block, head_block, body_block, done_block, looping}
-use Rattle.cfg_edges.specs.Graph.{edges_out, has_targets, HasGraph}
+use Rattle.cfg_edges.specs.Examples.{entry_block, head_block, body_block, done_block, looping, choosing, calling, selecting}
 
-some : 0 < length looping
+module _ (blocks : List Block) (some : 0 < length blocks) (targets : list_all (has_targets blocks) blocks ≡ true) (few : 1 + sum_by ways_out blocks < 4294967296) (few_sites : count_in is_site blocks < 4294967296) (few_selects : count_in is_select blocks < 4294967296) where
+  has_graph : (f : Function) → f.blocks ≡ blocks → HasGraph f
+  has_graph f is = record {
+    entry = subst (λ (bs : List Block). 0 < length bs) (sym is) some;
+    targets = subst (λ (bs : List Block). list_all (has_targets bs) bs ≡ true) (sym is) targets;
+    few = subst (λ (bs : List Block). 1 + sum_by ways_out bs < 4294967296) (sym is) few;
+    few_sites = subst (λ (bs : List Block). count_in is_site bs < 4294967296) (sym is) few_sites;
+    few_selects = subst (λ (bs : List Block). count_in is_select bs < 4294967296) (sym is) few_selects;
+  }
+
+looping_has_graph : (f : Function) → f.blocks ≡ looping → HasGraph f
 unfolding entry_block head_block body_block done_block
-some = omega arith
+looping_has_graph = has_graph looping (omega arith) refl (omega arith) (omega arith) (omega arith)
 
-few : 1 + sum_by edges_out looping < 4294967296
-unfolding entry_block head_block body_block done_block
-few = omega arith
+selecting_has_graph : (f : Function) → f.blocks ≡ selecting → HasGraph f
+unfolding selecting choosing calling
+selecting_has_graph = has_graph selecting (omega arith) refl (omega arith) (omega arith) (omega arith)
 
-targets : list_all (has_targets looping) looping ≡ true
-unfolding entry_block head_block body_block done_block
-targets = refl
+pub looping_made : {E : Type 0} (r : Result Function E) (blocks : List Block) → IfOk r (λ f. f.blocks ≡ blocks) → blocks ≡ looping → IfOk r HasGraph
+looping_made (Ok f) blocks of is = looping_has_graph f (of ∙ is)
+looping_made (Err e) blocks of is = tt
 
-pub has_graph : (f : Function) → f.blocks ≡ looping → HasGraph f
-has_graph f is = record {
-  entry = subst (λ (bs : List Block). 0 < length bs) (sym is) some;
-  targets = subst (λ (bs : List Block). list_all (has_targets bs) bs ≡ true) (sym is) targets;
-  few = subst (λ (bs : List Block). 1 + sum_by edges_out bs < 4294967296) (sym is) few;
-}
+pub selecting_made : {E : Type 0} (r : Result Function E) (blocks : List Block) → IfOk r (λ f. f.blocks ≡ blocks) → blocks ≡ selecting → IfOk r HasGraph
+selecting_made (Ok f) blocks of is = selecting_has_graph f (of ∙ is)
+selecting_made (Err e) blocks of is = tt
 
 pushed : (before after start : List Block) (b good : Block) → after ≡ before ++ b ∷ [] → b ≡ good → before ≡ start → after ≡ start ++ good ∷ []
 pushed before after start b good put is was = put ∙ (λ i. was i ++ is i ∷ [])

@@ -1,48 +1,12 @@
--- The edge graph of a function.
-use Rattle.std.specs.Prelude.{◌≡◌, ℕ, zero, suc, ◌+◌, ◌<◌, ◌≤◌, Bool, true, ◌⊎◌, List, [], ◌∷◌, length, max, sum_by, Option, None, Some, is_some, slice_get}
-use Rattle.std.specs.List.{list_all}
-use Rattle.block_search.specs.Reach.{IsReachable, AreMarks}
+-- What holds of the edge graph of a function, and what its edges stand for.
+use Rattle.std.specs.Prelude.{◌≡◌, ℕ, zero, suc, ◌+◌, ◌<◌, ◌≤◌, Bool, if◌then◌else◌, ◌⊎◌, List, [], ◌∷◌, length, max, Option, None, Some, slice_get}
+use Rattle.ir_tree.specs.Edges.{block_place, edges_by, entry_edge, marked_from, numbers, rows}
+use Rattle.ir_tree.specs.Graphs.{FlowGraph, block_of, ways_out, is_select, is_site, nodes, places_of}
+use Rattle.ir_tree.specs.Reach.{AreMarks, IsReachable, reached}
 use Rattle.ir_tree.specs.Successors.{successors}
+use Rattle.ir_tree.specs.declared.edge.Edge.{Edge}
 use Rattle.ir_tree.specs.declared.types.Block.{Block}
 use Rattle.ir_tree.specs.declared.types.Function.{Function}
-use Rattle.cfg_edges.specs.Blocks.{block_named, rows}
-use Rattle.cfg_edges.specs.Nodes.{marked_from, numbers}
-use Rattle.cfg_edges.specs.Edges.{entry_edge, edges_by}
-use Rattle.cfg_edges.specs.declared.edge.Edge.{Edge}
-
--- ---- the functions that have a graph
-
--- the number of edges out of a block
-abbrev pub edges_out : Block → ℕ
-edges_out block = max 1 (length (successors block.term))
-
--- each label that the block's terminator names is a block's
-abbrev pub has_targets : List Block → Block → Bool
-has_targets blocks block = list_all (λ to. is_some (block_named blocks to)) (successors block.term)
-
--- a function with blocks, whose terminators name blocks, and so few edges that their numbers fit 32 bits
-pub record HasGraph (f : Function) : Type 0 where
-  pub entry : 0 < length f.blocks
-  pub targets : list_all (has_targets f.blocks) f.blocks ≡ true
-  pub few : 1 + sum_by edges_out f.blocks < 4294967296
-
--- ---- graphs
-
--- the block of each node but node 0, by its number in text order; and the edges by number
-pub record FlowGraph : Type 0 where
-  pub blocks : List ℕ
-  pub edges : List Edge
-
-abbrev pub flow_graph : List ℕ → List Edge → FlowGraph
-flow_graph blocks edges = record { blocks = blocks; edges = edges }
-
-abbrev pub nodes : FlowGraph → ℕ
-nodes g = length g.blocks + 1
-
--- none at node 0, and past the last node
-abbrev pub block_of : FlowGraph → ℕ → Option ℕ
-block_of g zero = None
-block_of g (suc n) = slice_get g.blocks n
 
 -- the ends of an edge are nodes, and it leaves the block of its first end
 pub record IsEdge (g : FlowGraph) (e : Edge) : Type 0 where
@@ -59,13 +23,19 @@ Follows edges (k ∷ ks) a b = (e : Edge) × (slice_get edges k ≡ Some e) × (
 abbrev pub AreApart : List Edge → Type 0
 AreApart edges = (j k : ℕ) (d e : Edge) → slice_get edges j ≡ Some d → slice_get edges k ≡ Some e → d.block ≡ e.block → d.position ≡ e.position → j ≡ k
 
--- what holds of the graph of any function: each node has an edge out, so there are as many edges as nodes; and edges lead from node 0 to each node
+-- What holds of the graph of any function: each node has an edge out, so there are as many edges as nodes; a block is the
+-- block of one node; edges lead from node 0 to each node; and edge 0 leads from node 0 to node 1, the first block's
 pub record IsFlowGraph (g : FlowGraph) : Type 0 where
   pub enough : nodes g ≤ length g.edges
   pub few : length g.edges < 4294967296
   pub sound : (k : ℕ) (e : Edge) → slice_get g.edges k ≡ Some e → IsEdge g e
   pub apart : AreApart g.edges
+  pub one_node : (n k b : ℕ) → block_of g n ≡ Some b → block_of g k ≡ Some b → n ≡ k
   pub reached : (n : ℕ) → n < nodes g → (ks : List ℕ) × Follows g.edges ks 0 n
+  pub first : slice_get g.edges 0 ≡ Some entry_edge
+  pub entry : slice_get g.blocks 0 ≡ Some 0
+  pub few_sites : length g.sites < 4294967296
+  pub few_selects : length g.selects < 4294967296
 
 -- the graph of a function: its nodes are the reachable blocks in text order, and its edges come block by block
 pub record IsGraphOf (f : Function) (g : FlowGraph) : Type 0 where
@@ -73,6 +43,8 @@ pub record IsGraphOf (f : Function) (g : FlowGraph) : Type 0 where
   pub marked : AreMarks (rows f.blocks) marks
   pub blocks : g.blocks ≡ marked_from 0 marks
   pub edges : g.edges ≡ edges_by (numbers 1 marks) (rows f.blocks) g.blocks
+  pub sites : g.sites ≡ places_of is_site f.blocks g.blocks
+  pub selects : g.selects ≡ places_of is_select f.blocks g.blocks
 
 -- ---- what an edge stands for
 
@@ -85,7 +57,7 @@ successors_of (block ∷ blocks) (suc b) = successors_of blocks b
 pub record IsBranch (f : Function) (g : FlowGraph) (b : ℕ) (e : Edge) : Type 0 where
   pub to : List ℕ
   pub successor : slice_get (successors_of f.blocks b) e.position ≡ Some to
-  pub target : block_of g e.to ≡ block_named f.blocks to
+  pub target : block_of g e.to ≡ block_place f.blocks to
 
 -- the block has no successor, and the edge leads to node 0
 pub record IsExit (f : Function) (b : ℕ) (e : Edge) : Type 0 where
@@ -109,3 +81,33 @@ EdgesStand f g = (k : ℕ) (e : Edge) → slice_get g.edges k ≡ Some e → Sta
 -- each successor of a reachable block has an edge, and so has the exit of one without successors
 abbrev pub EachHasEdge : Function → FlowGraph → Type 0
 EachHasEdge f g = (b p : ℕ) → IsReachable (rows f.blocks) b → p < max 1 (length (successors_of f.blocks b)) → (k : ℕ) × (e : Edge) × (slice_get g.edges k ≡ Some e) × (e.block ≡ Some b) × (e.position ≡ p)
+
+-- a reachable block, which is the first of its label
+pub record IsNamed (f : Function) (b : ℕ) : Type 0 where
+  pub block : Block
+  pub at : slice_get f.blocks b ≡ Some block
+  pub reachable : IsReachable (rows f.blocks) b
+  pub named : block_place f.blocks block.label ≡ Some b
+
+-- each node but node 0 is a reachable block, which is the first of its label
+abbrev pub NodesStand : Function → FlowGraph → Type 0
+NodesStand f g = (n b : ℕ) → block_of g n ≡ Some b → IsNamed f b
+
+-- the successors of a reachable block are labels of reachable blocks
+abbrev pub SuccessorsAreReached : Function → Type 0
+SuccessorsAreReached f = (b p : ℕ) (to : List ℕ) → IsReachable (rows f.blocks) b → slice_get (successors_of f.blocks b) p ≡ Some to → (t : ℕ) × (block_place f.blocks to ≡ Some t) × IsReachable (rows f.blocks) t
+
+-- how many edges leave the marked ones of the blocks before block b
+abbrev pub edges_before : List Bool → List Block → ℕ → ℕ
+edges_before [] blocks b = 0
+edges_before (m ∷ ms) [] b = 0
+edges_before (m ∷ ms) (block ∷ blocks) zero = 0
+edges_before (m ∷ ms) (block ∷ blocks) (suc b) = (if m then ways_out block else 0) + edges_before ms blocks b
+
+-- the number of the first edge out of a block: edge 0 enters the function, and the edges of reachable blocks follow
+abbrev pub first_edge : Function → ℕ → ℕ
+first_edge f b = 1 + edges_before (reached (rows f.blocks)) f.blocks b
+
+-- the edge of a reachable block and a position has the number that the block's first edge plus the position gives
+abbrev pub AreNumbered : Function → FlowGraph → Type 0
+AreNumbered f g = (b p : ℕ) → IsReachable (rows f.blocks) b → p < max 1 (length (successors_of f.blocks b)) → (e : Edge) × (slice_get g.edges (first_edge f b + p) ≡ Some e) × (e.block ≡ Some b) × (e.position ≡ p)

@@ -1,5 +1,5 @@
 pub mod Blocks
-pub mod Edges
 pub mod Examples
 pub mod Graph
-pub mod Nodes
+pub mod Hash
+pub mod Sought

@@ -1,13 +1,19 @@
-//! A function's edges: its reachable blocks as nodes, and an edge for each successor and each exit.
+//! A function's edges: its reachable blocks as nodes, an edge for each successor and each exit, the calls
+//! through a local and the selects of its blocks, and the hash of all of it.
 #![tactic(auto)]
 
-mod edge;
+mod edges;
 mod graph;
+mod hash;
+mod laws;
 mod nodes;
+mod places;
 mod rows;
 
-pub use edge::Edge;
 pub use graph::Graph;
+pub use hash::function_hash;
+pub use ir_tree::Edge;
+pub use laws::graphs_stand;
 
 #[cfg(test)]
 mod tests;

@@ -1,6 +1,6 @@
 // The reachable blocks as nodes, numbered from 1 in text order.
 ghost use Rattle.std.specs.Prelude.{◌≡◌, ◌<◌, length, IfOk};
-ghost use Rattle.cfg_edges.specs.Nodes.{numbers, marked_from};
+ghost use Rattle.ir_tree.specs.Edges.{numbers, marked_from};
 
 use pgo_base::NoMemory;
 use std::alloc::Global;

@@ -1,18 +1,19 @@
 // The successors of each block by number: labels are found by an index.
 ghost use Rattle.std.specs.Prelude.{◌≡◌, ◌<◌, ◌++◌, length, map, IfOk, OnOk};
-ghost use Rattle.cfg_edges.specs.Blocks.{labels, rows, HasFewPlaces, found, found_all};
+ghost use Rattle.cfg_edges.specs.Blocks.{HasFewPlaces, found, found_all};
+ghost use Rattle.ir_tree.specs.Edges.{labels, rows};
 ghost use Rattle.ir_tree.specs.Names.{Indexes};
 ghost use Rattle.ir_tree.specs.Successors.{successors};
 
-use block_search::Row;
+use block_search::Rows;
 use ir_tree::{Block, Index, Name, Term};
 use pgo_base::NoMemory;
 use std::alloc::Global;
 
 // The successors of each block.
-pub(crate) fn rows_of(alloc: Global, blocks: &[Block]) -> Result<Vec<Row>, NoMemory>
+pub(crate) fn rows_of(alloc: Global, blocks: &[Block]) -> Result<Rows, NoMemory>
     requires { length blocks.now < 4294967296 }
-    ensures { IfOk result (λ made. made.items ≡ rows blocks.now) }
+    ensures { IfOk result (λ made. made ≡ rows blocks.now) }
 {
     let index = index_of(alloc, blocks)?;
     rows_by(alloc, &index, blocks)
@@ -28,35 +29,37 @@ fn index_of(alloc: Global, blocks: &[Block]) -> Result<Index, NoMemory>
     Ok(index)
 }
 
-fn rows_by(alloc: Global, index: &Index, blocks: &[Block]) -> Result<Vec<Row>, NoMemory>
+fn rows_by(alloc: Global, index: &Index, blocks: &[Block]) -> Result<Rows, NoMemory>
     requires { HasFewPlaces index.now }
-    ensures { IfOk result (λ made. made.items ≡ map (λ block. found_all index.now (successors block.term)) blocks.now) }
+    ensures { IfOk result (λ made. made ≡ map (λ block. found_all index.now (successors block.term)) blocks.now) }
 {
-    let mut rows = Vec::with_capacity(alloc, blocks.len())?;
+    let mut ends = Vec::with_capacity(alloc, blocks.len())?;
+    let mut targets = Vec::new(alloc);
     for block in blocks {
-        rows.push(row_by(alloc, index, &block.term)?)?;
+        push_targets(index, &block.term, &mut targets)?;
+        ends.push(targets.len())?;
     }
-    Ok(rows)
+    Ok(Rows::of(ends, targets))
 }
 
-fn row_by(alloc: Global, index: &Index, term: &Term) -> Result<Row, NoMemory>
+// Appends the successors of a terminator.
+fn push_targets(index: &Index, term: &Term, targets: &mut Vec<u32>) -> Result<(), NoMemory>
     requires { HasFewPlaces index.now }
-    ensures { IfOk result (λ row. row ≡ found_all index.now (successors term.now)) }
+    ensures { OnOk result (targets.new.items ≡ targets.old.items ++ found_all index.now (successors term.now)) }
 {
-    let mut blocks = Vec::new(alloc);
     match term {
-        Term::Br { to } => blocks.push(find(index, to))?,
+        Term::Br { to } => targets.push(find(index, to))?,
         Term::CondBr { yes, no, .. } => {
-            blocks.push(find(index, yes))?;
-            blocks.push(find(index, no))?;
+            targets.push(find(index, yes))?;
+            targets.push(find(index, no))?;
         }
         Term::Switch { default, cases, .. } => {
-            blocks.push(find(index, default))?;
-            push_cases(index, cases.as_slice(), &mut blocks)?;
+            targets.push(find(index, default))?;
+            push_cases(index, cases.as_slice(), targets)?;
         }
         Term::Ret { .. } | Term::Unreachable => {}
     }
-    Ok(Row::of(blocks))
+    Ok(())
 }
 
 fn push_cases(index: &Index, cases: &[(u64, Name)], blocks: &mut Vec<u32>) -> Result<(), NoMemory>

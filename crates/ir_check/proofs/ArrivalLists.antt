@@ -1,16 +1,18 @@
 -- Lists of the blocks from which blocks are entered, one number further.
-use Rattle.std.proofs.Common.{◌≡◌, ◌≢◌, ℕ, ◌+◌, ◌<◌, Bool, true, false, ◌==◌, ◌&&◌, List, [], ◌∷◌, ◌++◌, map, length, take, get_or, vec_len, Some, refl, sym, ap, subst, ◌∙◌, inl, inr, ◌⊎◌, arith, append-nil}
+use Rattle.std.proofs.Common.{◌≡◌, ◌≢◌, ℕ, ◌+◌, ◌<◌, Bool, true, false, ◌==◌, ◌&&◌, List, [], ◌∷◌, ◌++◌, map, length, take, get_or, vec_len, Some, slice_get, refl, sym, ap, subst, ◌∙◌, inl, inr, ◌⊎◌, arith, append-nil, append_assoc}
 use Rattle.std.specs.Global.{Vec}
 use Rattle.std.specs.Vec.{with_item}
 use Rattle.std.specs.List.{slice_set}
 use Rattle.std.proofs.lemmas.Bool.Decides.{eqb_tells}
 use Rattle.std.proofs.lemmas.List.{map-set, get_or-set_same, get_or-set_other, get_or-map, length-map}
-use Rattle.ir_check.proofs.Each.{each_taken}
 use Rattle.ir_check.specs.Arrivals.{Lists, listed, Gains}
-use Rattle.ir_check.specs.Lists.{only_if}
+use Rattle.ir_check.specs.Meanings.{LocalOf, is_label, is_label_at}
 use Rattle.ir_check.specs.Phis.{arrivals, each_arrival}
-use Rattle.ir_check.specs.Rules.{Known, is_label, is_label_at}
-use Rattle.ir_check.specs.declared.locals.Local.{Local}
+use Rattle.ir_check.proofs.ByPlace.{flat_read}
+use Rattle.ir_tree.specs.Operands as operand
+use Rattle.spec_lists.specs.Each.{only_if}
+use Rattle.spec_lists.proofs.Each.{each_taken}
+use Rattle.ir_tree.specs.declared.locals.Local.{Local}
 use Rattle.ir_tree.specs.Successors.{successors}
 use Rattle.ir_tree.specs.declared.types.Block.{Block}
 
@@ -41,8 +43,17 @@ module _ (lists : Lists) (to : Local) (p : ℕ) (old pushed : Vec ℕ) (label : 
     each = λ b h. gained_at b (eqb_tells to.block b);
   }
 
+-- one label more
+pub gains_further : (known : LocalOf) (p : ℕ) (tos : List (List ℕ)) (i : ℕ) (old now new : Lists) → Gains old now (λ b. each_arrival known b p (take i tos)) → Gains now new (λ b. each_arrival known b p (operand.listed (slice_get tos i))) → Gains old new (λ b. each_arrival known b p (take (i + 1) tos))
+gains_further known p tos i old now new g h = record {
+  count = h.count ∙ g.count;
+  each = λ b within.
+      let here : b < vec_len now = let same : vec_len now ≡ vec_len old = g.count in omega arith in
+      h.each b here ∙ ap (λ (ns : List ℕ). ns ++ each_arrival known b p (operand.listed (slice_get tos i))) (g.each b within) ∙ append_assoc (listed old b) (each_arrival known b p (take i tos)) (each_arrival known b p (operand.listed (slice_get tos i))) ∙ ap (λ (ns : List ℕ). listed old b ++ ns) (sym (flat_read (λ to. only_if (is_label_at b (known to)) p) tos i));
+}
+
 -- the successors of one block more
-pub entered_more : (known : Known) (blocks : List Block) (old new : Lists) (p : ℕ) (block : Block) (b : ℕ) → p < length blocks → block ≡ get_or blocks p block → b < vec_len old → listed old b ≡ arrivals known b (take p blocks) → Gains old new (λ c. each_arrival known c p (successors block.term)) → listed new b ≡ arrivals known b (take (p + 1) blocks)
+pub entered_more : (known : LocalOf) (blocks : List Block) (old new : Lists) (p : ℕ) (block : Block) (b : ℕ) → p < length blocks → block ≡ get_or blocks p block → b < vec_len old → listed old b ≡ arrivals known b (take p blocks) → Gains old new (λ c. each_arrival known c p (successors block.term)) → listed new b ≡ arrivals known b (take (p + 1) blocks)
 entered_more known blocks old new p block b h is within was g =
     let more : arrivals known b (take (p + 1) blocks) ≡ arrivals known b (take p blocks) ++ each_arrival known b p (successors (get_or blocks p block).term) = each_taken (λ q x. each_arrival known b q (successors x.term)) blocks p block h in
     g.each b within ∙ ap (λ (ns : List ℕ). ns ++ each_arrival known b p (successors block.term)) was ∙ ap (λ (x : Block). arrivals known b (take p blocks) ++ each_arrival known b p (successors x.term)) is ∙ sym more

@@ -5,7 +5,7 @@ use Rattle.std.specs.List.Sorted.{IsNonDecreasing}
 use Rattle.std.proofs.lemmas.Bool.Decides.{leb_tells, nat_tests}
 use Rattle.std.proofs.lemmas.List.Sums.{sum_by-cons}
 use Rattle.std.proofs.Math.Dec.{leb}
-use Rattle.ir_check.specs.Lists.{only_if}
+use Rattle.spec_lists.specs.Each.{only_if}
 
 abbrev pub one : ℕ → ℕ → ℕ
 one v x = cond (x == v) 1 0

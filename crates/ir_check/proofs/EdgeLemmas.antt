@@ -1,20 +1,21 @@
 -- In an accepted module a phi has an entry for each edge that leads to its block.
-use Rattle.std.proofs.Common.{◌≡◌, ℕ, zero, suc, ◌+◌, ◌≤◌, Bool, true, false, cond, not, ◌==◌, ◌&&◌, List, [], ◌∷◌, ◌++◌, map, length, Option, Some, is_some, refl, sym, ap, subst, ◌∙◌, arith, add-zero, zero-add}
+use Rattle.std.proofs.Common.{◌≡◌, ℕ, zero, suc, ◌+◌, ◌≤◌, Bool, true, false, cond, not, ◌==◌, ◌&&◌, List, [], ◌∷◌, Option, Some, is_some, refl, ap, subst, ◌∙◌, arith, add-zero, zero-add}
 use Rattle.std.specs.List.{slice_get, find, count_by, list_all}
+use Rattle.std.specs.Prelude.{length}
 use Rattle.std.proofs.lemmas.Bool.{eqb-true}
 use Rattle.std.proofs.lemmas.List.Sums.{sum_by-cons}
-use Rattle.ir_check.proofs.Few.{nil_left, nil_right}
+use Rattle.ir_check.proofs.Kept.{and_left, and_right, each_nil, label_kept, map_nil, not_false, only_nil, phis_kept}
 use Rattle.ir_check.proofs.LabelLemmas.{label_of}
-use Rattle.ir_check.proofs.Matches.{and_left, and_right}
 use Rattle.ir_check.specs.Accepted.{IsAccepted}
-use Rattle.ir_check.specs.EdgeEntries.{IsEdge}
-use Rattle.ir_check.specs.Lists.{each, only_if}
-use Rattle.ir_check.specs.Locals.{known_in}
-use Rattle.ir_check.specs.Phis.{Entries, all_broken, are_as_many, are_matched, entries_for, entry_for, have_one_value, is_block, is_matched, positions_to, unmatched, unmatched_in, unmatched_items, unmatched_of, unmatched_spots}
-use Rattle.ir_check.specs.Rules.{Known, above_ten, below_ten, block_breaks, block_spots, broken, function_breaks, head_breaks, is_label_at, label_breaks, numbered, place, place_in, places, places_of}
-use Rattle.ir_check.specs.declared.place.Place.{Place}
+use Rattle.ir_check.specs.EdgeEntries.{IsBlockEdge}
+use Rattle.ir_check.specs.Meanings.{LocalOf, is_label_at}
+use Rattle.ir_check.specs.Phis.{are_as_many, are_matched, entries_for, have_one_value, is_block, is_matched, positions_to, unmatched_in, unmatched_items, unmatched_spots}
+use Rattle.ir_check.specs.Rules.{broken, label_breaks}
 use Rattle.ir_check.specs.declared.rule.Rule.TheVariants as rule
+use Rattle.ir_tree.specs.Locals.{first_local}
 use Rattle.ir_tree.specs.Names.{same}
+use Rattle.ir_tree.specs.Operands.{Entries}
+use Rattle.ir_tree.specs.Phis.{entry_for}
 use Rattle.ir_tree.specs.Successors.{successors}
 use Rattle.ir_tree.specs.declared.types.Block.{Block}
 use Rattle.ir_tree.specs.declared.types.Function.{Function}
@@ -22,60 +23,27 @@ use Rattle.ir_tree.specs.declared.types.Instr.{Instr}
 use Rattle.ir_tree.specs.declared.types.Instr.TheVariants.{Phi}
 use Rattle.ir_tree.specs.declared.types.Module.{Module}
 use Rattle.ir_tree.specs.declared.types.Ty.{Ty}
-
-map_nil : {X Y : Type 0} (g : X → Y) (xs : List X) → map g xs ≡ [] → xs ≡ []
-map_nil g [] e = refl
-map_nil g (x ∷ xs) e = absurd (cc)
-
-only_nil : {Y : Type 0} (b : Bool) (y : Y) → only_if (not b) y ≡ [] → b ≡ true
-only_nil true y e = refl
-only_nil false y e = absurd (cc)
-
--- nothing is answered for any item
-each_nil : {X Y : Type 0} (ask : ℕ → X → List Y) (n : ℕ) (xs : List X) → each ask n xs ≡ [] → (i : ℕ) (x : X) → slice_get xs i ≡ Some x → ask (n + i) x ≡ []
-each_nil ask n [] e i x at = absurd (cc)
-each_nil ask n (y ∷ ys) e zero x at =
-    let is : y ≡ x = cc in
-    (λ j. ask (add-zero n j) (sym is j)) ∙ nil_left (ask n y) (each ask (n + 1) ys) e
-each_nil ask n (y ∷ ys) e (suc i) x at =
-    let number : n + suc i ≡ n + 1 + i = omega arith in
-    ap (λ (k : ℕ). ask k x) number ∙ each_nil ask (n + 1) ys (nil_right (ask n y) (each ask (n + 1) ys) e) i x at
-
-each_nil-0 : {X Y : Type 0} (ask : ℕ → X → List Y) (xs : List X) → each ask 0 xs ≡ [] → (i : ℕ) (x : X) → slice_get xs i ≡ Some x → ask i x ≡ []
-each_nil-0 ask xs e i x at = ap (λ (k : ℕ). ask k x) (sym (zero-add i)) ∙ each_nil ask 0 xs e i x at
+use Rattle.spec_lists.specs.Each.{only_if}
 
 -- ---- what holds of a function of an accepted module
 
-none_unmatched : (fs : List Function) → all_broken fs ≡ [] → each unmatched_of 0 fs ≡ []
-unfolding all_broken unmatched
-none_unmatched fs e = map_nil (λ (p : Place). (10, p)) (each unmatched_of 0 fs) (nil_left (map (λ p. (10, p)) (each unmatched_of 0 fs)) (broken above_ten fs) (nil_right (broken below_ten fs) (map (λ p. (10, p)) (each unmatched_of 0 fs) ++ broken above_ten fs) e))
-
-none_double : (fs : List Function) → all_broken fs ≡ [] → each (places_of rule.Distinct fs) 0 fs ≡ []
-unfolding all_broken broken places
-none_double fs e =
-    let below : numbered fs rule.Names ++ (numbered fs rule.Distinct ++ (numbered fs rule.Targets ++ (numbered fs rule.Phis ++ []))) ≡ [] = nil_left (numbered fs rule.Names ++ (numbered fs rule.Distinct ++ (numbered fs rule.Targets ++ (numbered fs rule.Phis ++ [])))) (map (λ p. (10, p)) (unmatched fs) ++ broken above_ten fs) e in
-    map_nil (λ (p : Place). (6, p)) (each (places_of rule.Distinct fs) 0 fs) (nil_left (numbered fs rule.Distinct) (numbered fs rule.Targets ++ (numbered fs rule.Phis ++ [])) (nil_right (numbered fs rule.Names) (numbered fs rule.Distinct ++ (numbered fs rule.Targets ++ (numbered fs rule.Phis ++ []))) below))
-
-module _ (fs : List Function) (k : ℕ) (f : Function) (at : slice_get fs k ≡ Some f) (whole : all_broken fs ≡ []) (j : ℕ) (block : Block) (here : slice_get f.blocks j ≡ Some block) where
-  matched_at : (n : ℕ) (x : Instr) → slice_get block.instrs n ≡ Some x → is_matched (known_in f) f.blocks j x ≡ true
+module _ (fs : List Function) (k : ℕ) (f : Function) (at : slice_get fs k ≡ Some f) (whole : broken fs ≡ []) (j : ℕ) (block : Block) (here : slice_get f.blocks j ≡ Some block) where
+  -- the rule on entries is the sixth
+  matched_at : (n : ℕ) (x : Instr) → slice_get block.instrs n ≡ Some x → is_matched (first_local f) f.blocks j x ≡ true
   matched_at n x item =
-      let of_f : unmatched_in (known_in f) f.blocks ≡ [] = map_nil (place k) (unmatched_in (known_in f) f.blocks) (each_nil-0 unmatched_of fs (none_unmatched fs whole) k f at) in
-      let of_block : unmatched_items (known_in f) f.blocks j block.instrs ≡ [] = map_nil (λ (i : ℕ). (j, i)) (unmatched_items (known_in f) f.blocks j block.instrs) (each_nil-0 (unmatched_spots (known_in f) f.blocks) f.blocks of_f j block here) in
-      only_nil (is_matched (known_in f) f.blocks j x) n (each_nil-0 (λ i y. only_if (not (is_matched (known_in f) f.blocks j y)) i) block.instrs of_block n x item)
+      let known = first_local f in
+      let of_f : unmatched_in known f.blocks ≡ [] = phis_kept fs whole 5 rule.Entries refl k f at in
+      let of_block : unmatched_items known f.blocks j block.instrs ≡ [] = map_nil (λ (i : ℕ). (j, i)) (unmatched_items known f.blocks j block.instrs) (each_nil (unmatched_spots known f.blocks) f.blocks of_f j block here) in
+      not_false (is_matched known f.blocks j x) (only_nil (not (is_matched known f.blocks j x)) n (each_nil (λ i y. only_if (not (is_matched known f.blocks j y)) i) block.instrs of_block n x item))
 
-  label_known : is_label_at j (known_in f block.label) ≡ true
-  unfolding function_breaks block_breaks label_breaks
-  label_known =
-      let known = known_in f in
-      let named = place_in fs in
-      let of_f : function_breaks rule.Distinct known named fs k f ≡ [] = map_nil (place k) (function_breaks rule.Distinct known named fs k f) (each_nil-0 (places_of rule.Distinct fs) fs (none_double fs whole) k f at) in
-      let of_blocks : each (block_spots rule.Distinct known named fs f.ret) 0 f.blocks ≡ [] = nil_right (only_if (head_breaks rule.Distinct known named k f) (0, 0)) (each (block_spots rule.Distinct known named fs f.ret) 0 f.blocks) of_f in
-      let of_block : block_breaks rule.Distinct known named fs f.ret j block ≡ [] = map_nil (λ (i : ℕ). (j, i)) (block_breaks rule.Distinct known named fs f.ret j block) (each_nil-0 (block_spots rule.Distinct known named fs f.ret) f.blocks of_blocks j block here) in
-      only_nil (is_label_at j (known block.label)) 0 (nil_left (only_if (not (is_label_at j (known block.label))) 0) _ of_block)
+  -- the rule on distinct names is the third
+  label_known : is_label_at j (first_local f block.label) ≡ true
+  unfolding label_breaks
+  label_known = not_false (is_label_at j (first_local f block.label)) (label_kept fs whole 2 rule.Distinct refl k f at j block here)
 
 -- ---- from positions to entries
 
-as_many_at : (known : Known) (b : ℕ) (entries : Entries) (p : ℕ) (blocks : List Block) → are_as_many known b entries p blocks ≡ true → (i : ℕ) (block : Block) → slice_get blocks i ≡ Some block → entries_for known entries (p + i) ≡ positions_to known b block
+as_many_at : (known : LocalOf) (b : ℕ) (entries : Entries) (p : ℕ) (blocks : List Block) → are_as_many known b entries p blocks ≡ true → (i : ℕ) (block : Block) → slice_get blocks i ≡ Some block → entries_for known entries (p + i) ≡ positions_to known b block
 as_many_at known b entries p [] e i block at = absurd (cc)
 as_many_at known b entries p (y ∷ ys) e zero block at =
     let is : y ≡ block = cc in
@@ -113,9 +81,9 @@ found_too {X} test other (x ∷ xs) h some = by (λ more. found_too test other x
         let whole = all in
         rest (omega arith)
 
-pub edge_entry : (m : Module) → IsAccepted m → (k i j n : ℕ) (f : Function) (block target : Block) → slice_get m.functions k ≡ Some f → IsEdge f i j block target → (dest : List ℕ) (t : Ty) (entries : Entries) → slice_get target.instrs n ≡ Some (Phi dest t entries) → is_some (entry_for entries block.label) ≡ true
+pub edge_entry : (m : Module) → IsAccepted m → (k i j n : ℕ) (f : Function) (block target : Block) → slice_get m.functions k ≡ Some f → IsBlockEdge f i j block target → (dest : List ℕ) (t : Ty) (entries : Entries) → slice_get target.instrs n ≡ Some (Phi dest t entries) → is_some (entry_for block.label entries) ≡ true
 edge_entry m accepted k i j n f block target at edge dest t entries item =
-    let known = known_in f in
+    let known = first_local f in
     let matched : are_matched known f.blocks j entries ≡ true = matched_at m.functions k f at accepted.whole j target edge.head n (Phi dest t entries) item in
     let many : are_as_many known j entries 0 f.blocks ≡ true = and_right (list_all (λ e. is_block (length f.blocks) (known e.1)) entries) (are_as_many known j entries 0 f.blocks) (and_left (list_all (λ e. is_block (length f.blocks) (known e.1)) entries && are_as_many known j entries 0 f.blocks) (have_one_value entries) matched) in
     let same_count : entries_for known entries (0 + i) ≡ positions_to known j block = as_many_at known j entries 0 f.blocks many i block edge.tail in

@@ -1,7 +1,14 @@
--- The first of two lists put together, and of what is asked of a list one item further.
-use Rattle.std.proofs.Common.{◌≡◌, ℕ, ◌+◌, ◌<◌, List, [], ◌∷◌, ◌++◌, map, flat_map, length, drop, get_or, Option, None, Some, refl, sym, ap, ◌∙◌, add-one, drop-cons}
-use Rattle.ir_check.specs.Lists.{each, first_of}
-use Rattle.ir_check.proofs.Each.{each_dropped}
+-- The first of two lists put together.
+use Rattle.std.proofs.Common.{◌≡◌, ℕ, ◌+◌, ◌<◌, List, [], ◌∷◌, ◌++◌, map, flat_map, length, drop, get_or, None, Some, refl, sym, ap, ◌∙◌, add-one, drop-cons}
+use Rattle.spec_lists.specs.Each.{first_of}
+
+pub nil_left : {Y : Type 0} (ys zs : List Y) → ys ++ zs ≡ [] → ys ≡ []
+nil_left [] zs h = refl
+nil_left (y ∷ ys) zs h = cc
+
+pub nil_right : {Y : Type 0} (ys zs : List Y) → ys ++ zs ≡ [] → zs ≡ []
+nil_right [] zs h = h
+nil_right (y ∷ ys) zs h = cc
 
 pub first_none : {Y : Type 0} (ys : List Y) → first_of ys ≡ None → ys ≡ []
 first_none [] none = refl
@@ -27,17 +34,6 @@ pub flat_dropped : {X Y : Type 0} (f : X → List Y) (xs : List X) (i : ℕ) (d 
 flat_dropped {X} {Y} f xs i d h =
     let next : drop i xs ≡ get_or xs i d ∷ drop (i + 1) xs = drop-cons xs i d h ∙ ap (λ (m : ℕ). get_or xs i d ∷ drop m xs) (sym (add-one i)) in
     ap (λ (zs : List X). flat_map f zs) next
-
--- a loop over a list whose item at i breaks nothing, and one whose item does
-module _ {X Y : Type 0} (ask : ℕ → X → List Y) (xs : List X) (i : ℕ) (x : X) (whole : Option Y) (h : i < length xs) (is : x ≡ get_or xs i x) (so : first_of (each ask i (drop i xs)) ≡ whole) where
-  parted : first_of (ask i x ++ each ask (i + 1) (drop (i + 1) xs)) ≡ whole
-  parted = ap (λ (z : X). first_of (ask i z ++ each ask (i + 1) (drop (i + 1) xs))) is ∙ sym (ap (λ (ys : List Y). first_of ys) (each_dropped ask xs i x h)) ∙ so
-
-  pub walked_over : first_of (ask i x) ≡ None → first_of (each ask (i + 1) (drop (i + 1) xs)) ≡ whole
-  walked_over none = sym (over_plain (ask i x) (each ask (i + 1) (drop (i + 1) xs)) none) ∙ parted
-
-  pub walked_into : (y : Y) → first_of (ask i x) ≡ Some y → Some y ≡ whole
-  walked_into y found = sym (found_plain (ask i x) (each ask (i + 1) (drop (i + 1) xs)) y found) ∙ parted
 
 pub mapped_none : {Y Z : Type 0} (g : Y → Z) (ys : List Y) → first_of ys ≡ None → first_of (map g ys) ≡ None
 mapped_none g [] none = refl

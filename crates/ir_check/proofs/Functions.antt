@@ -4,7 +4,7 @@ use Rattle.std.proofs.lemmas.List.{take_more, map_push, length-map, length-take-
 use Rattle.ir_tree.specs.Names.{Indexes, first_place}
 use Rattle.ir_tree.specs.declared.index.Index.{Index}
 use Rattle.ir_tree.specs.declared.types.Function.{Function}
-use Rattle.ir_check.specs.Rules.{place_in}
+use Rattle.ir_tree.specs.Functions.{function_place}
 
 abbrev names : List Function → List (List ℕ)
 names fs = map (λ f. f.name) fs
@@ -18,5 +18,5 @@ names_more index fs k f n h is same made =
     subst (λ (ns : List (List ℕ)). Indexes index ns) (sym more) made
 
 -- an index of the functions' names looks up as the definition does
-pub looks_up : (index : Index) (fs : List Function) → Indexes index (names fs) → first_place index ≡ place_in fs
+pub looks_up : (index : Index) (fs : List Function) → Indexes index (names fs) → first_place index ≡ function_place fs
 looks_up index fs made = λ i q. made q i

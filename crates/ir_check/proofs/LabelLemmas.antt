@@ -4,11 +4,12 @@ use Rattle.std.specs.Cmp.Lexicographic.{nat_list_eq_equiv}
 use Rattle.std.specs.List.{slice_get}
 use Rattle.std.specs.Map.{lookup}
 use Rattle.std.proofs.lemmas.Bool.{eqb-true}
-use Rattle.ir_check.specs.Lists.{each}
-use Rattle.ir_check.specs.Locals.{Entry, given, param, as_result, result_at, block_locals, locals, known_in}
-use Rattle.ir_check.specs.Rules.{is_label_at}
-use Rattle.ir_check.specs.declared.locals.Local.{Local}
+use Rattle.ir_check.specs.Meanings.{is_label_at}
+use Rattle.ir_tree.specs.Locals.{Entry, param, as_result, result_at, block_locals, locals, first_local}
 use Rattle.ir_tree.specs.Names.{same}
+use Rattle.ir_tree.specs.Operands.{result_of}
+use Rattle.ir_tree.specs.declared.locals.Local.{Local}
+use Rattle.spec_lists.specs.Each.{each}
 use Rattle.ir_tree.specs.declared.types.Block.{Block}
 use Rattle.ir_tree.specs.declared.types.Function.{Function}
 use Rattle.ir_tree.specs.declared.types.Instr.{Instr}
@@ -31,7 +32,7 @@ module _ (name : List ℕ) (i : ℕ) where
 
   of_results : (b n : ℕ) (instrs : List Instr) → HaveName (each (result_at b) n instrs)
   of_results b n [] = tt
-  of_results b n (x ∷ xs) = by (of_results b (n + 1) xs) (given x)
+  of_results b n (x ∷ xs) = by (of_results b (n + 1) xs) (result_of x)
     where
       by : HaveName (each (result_at b) (n + 1) xs) → (o : Option (List ℕ × Ret)) → HaveName (as_result b n o ++ each (result_at b) (n + 1) xs)
       by rest None = rest
@@ -72,8 +73,8 @@ named_in i f block at = by (length f.blocks == 0)
     by false = have_both block.label i (each param 0 f.params) (each block_locals 0 f.blocks) (of_params block.label i 0 f.params) (of_blocks block.label i 0 f.blocks (λ q x here e. same_block i q f.blocks x block here at e))
 
 -- a name that stands for the label of block i
-pub label_of : (i : ℕ) (f : Function) (block : Block) (n : List ℕ) → slice_get f.blocks i ≡ Some block → is_label_at i (known_in f n) ≡ true → same block.label n ≡ true
-label_of i f block n at label = nat_list_eq_equiv.symm block.label n ∙ by (known_in f n) refl label
+pub label_of : (i : ℕ) (f : Function) (block : Block) (n : List ℕ) → slice_get f.blocks i ≡ Some block → is_label_at i (first_local f n) ≡ true → same block.label n ≡ true
+label_of i f block n at label = nat_list_eq_equiv.symm block.label n ∙ by (first_local f n) refl label
   where
     by : (o : Option Local) → lookup (same n) (locals f) ≡ o → is_label_at i o ≡ true → same n block.label ≡ true
     by None e h = absurd (cc)

@@ -10,11 +10,13 @@ use Rattle.std.proofs.lemmas.Bool.Decides.{leb_tells, nat_tests}
 use Rattle.std.proofs.lemmas.List.Sorted.{IsNonDecreasingBy-from_sort, sum_by-IsPermutation}
 use Rattle.std.proofs.lemmas.List.Sums.{sum_by-cons, sum_by-append}
 use Rattle.std.proofs.Math.Dec.{leb}
+use Rattle.ir_check.proofs.Kept.{and_left, and_right}
 use Rattle.ir_check.proofs.Counts.{one, count, Rises, lower, unique, rises_from_order, rises_again, count_again, count_none}
-use Rattle.ir_check.specs.Lists.{each, only_if}
-use Rattle.ir_check.specs.Phis.{Entries, arrivals, are_as_many, block_number, each_arrival, entries_for, is_block, numbers_of, positions_to}
-use Rattle.ir_check.specs.Rules.{Known, is_label, is_label_at}
-use Rattle.ir_check.specs.declared.locals.Local.{Local}
+use Rattle.spec_lists.specs.Each.{each, only_if}
+use Rattle.ir_check.specs.Phis.{arrivals, are_as_many, block_number, each_arrival, entries_for, is_block, numbers_of, positions_to}
+use Rattle.ir_check.specs.Meanings.{LocalOf, is_label, is_label_at}
+use Rattle.ir_tree.specs.Operands.{Entries}
+use Rattle.ir_tree.specs.declared.locals.Local.{Local}
 use Rattle.ir_tree.specs.Successors.{successors}
 use Rattle.ir_tree.specs.declared.types.Block.{Block}
 
@@ -22,15 +24,7 @@ and_is : (a b : Bool) → a ≡ true → b ≡ true → (a && b) ≡ true
 and_is true b h k = k
 and_is false b h k = cc
 
-pub and_left : (a b : Bool) → (a && b) ≡ true → a ≡ true
-and_left true b h = refl
-and_left false b h = h
-
-pub and_right : (a b : Bool) → (a && b) ≡ true → b ≡ true
-and_right true b h = h
-and_right false b h = cc
-
-module _ (known : Known) (b : ℕ) where
+module _ (known : LocalOf) (b : ℕ) where
   abbrev names_it : List ℕ → Bool
   names_it to = is_label_at b (known to)
 
@@ -91,7 +85,7 @@ module _ (known : Known) (b : ℕ) where
             let here : n ≡ v = omega arith in
             subst (λ (w : ℕ). entries_for known entries w ≡ count w (from n (block ∷ blocks))) here (first ∙ sym (count_here n block blocks))
 
-module _ (known : Known) where
+module _ (known : LocalOf) where
   count_number : (v : ℕ) (o : Option Local) → count v (block_number o) ≡ cond (is_label_at v o) 1 0
   count_number v None = refl
   count_number v (Some l) = by (is_label l.kind)
@@ -129,7 +123,7 @@ module _ (known : Known) where
       omega arith
 
 -- what the comparison of the sorted numbers tells
-module _ (known : Known) (b : ℕ) (entries : Entries) (blocks : List Block) (numbers sorted enters : List ℕ) (is : numbers ≡ numbers_of known entries) (moved : IsPermutation numbers sorted) (up : IsSorted nat_cmp sorted) (into : enters ≡ arrivals known b blocks) (named : list_all (λ e. is_block (length blocks) (known e.1)) entries ≡ true) where
+module _ (known : LocalOf) (b : ℕ) (entries : Entries) (blocks : List Block) (numbers sorted enters : List ℕ) (is : numbers ≡ numbers_of known entries) (moved : IsPermutation numbers sorted) (up : IsSorted nat_cmp sorted) (into : enters ≡ arrivals known b blocks) (named : list_all (λ e. is_block (length blocks) (known e.1)) entries ≡ true) where
   counted : (v : ℕ) → entries_for known entries v ≡ count v sorted
   counted v = sym (count_numbers known v entries) ∙ ap (λ (ns : List ℕ). count v ns) (sym is) ∙ sym (sum_by-IsPermutation (one v) numbers sorted moved)
 

@@ -8,7 +8,9 @@ use Rattle.std.specs.Option.{option_and_then}
 use Rattle.ir_tree.specs.Names.{Indexes, first_place, same}
 use Rattle.ir_tree.specs.declared.index.Index.{Index}
 use Rattle.ir_tree.specs.declared.types.Operand.{Operand}
-use Rattle.ir_check.specs.Phis.{Entries, entry_for, has_value, have_one_value}
+use Rattle.ir_check.specs.Phis.{has_value, have_one_value}
+use Rattle.ir_tree.specs.Operands.{Entries}
+use Rattle.ir_tree.specs.Phis.{entry_for}
 
 abbrev labels : Entries → List (List ℕ)
 labels es = map (λ e. e.1) es
@@ -42,7 +44,7 @@ found_at es k n e = by (nat_lt k n) refl
         sym (beyond es k far)
 
 -- the first entry with a label, by the place of the label among the labels
-pub entry_found : (es : Entries) (n : List ℕ) → option_and_then (slice_get es) (position (same n) (map (λ e. e.1) es)) ≡ entry_for es n
+pub entry_found : (es : Entries) (n : List ℕ) → option_and_then (slice_get es) (position (same n) (map (λ e. e.1) es)) ≡ entry_for n es
 entry_found es n =
     let k = prefix_len (λ m. not (same n m)) (labels es) in
     found_at es k (length (labels es)) (length-map es (λ e. e.1)) ∙ ap (λ (j : ℕ). slice_get es j) (first_label (same n) es) ∙ sym (find_at (λ e. same n e.1) es)
@@ -51,5 +53,5 @@ entry_found es n =
 pub first_values : (index : Index) (es : Entries) → Indexes index (map (λ e. e.1) es) → list_all (λ e. has_value e.0 (option_and_then (slice_get es) (first_place index e.1))) es ≡ have_one_value es
 first_values index es made = λ i. list_all (λ e. has_value e.0 (is e.1 i)) es
   where
-    is : (n : List ℕ) → option_and_then (slice_get es) (first_place index n) ≡ entry_for es n
+    is : (n : List ℕ) → option_and_then (slice_get es) (first_place index n) ≡ entry_for n es
     is n = ap (λ (o : Option ℕ). option_and_then (slice_get es) o) (made n) ∙ entry_found es n

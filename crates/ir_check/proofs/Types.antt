@@ -1,6 +1,7 @@
 -- The types of arguments against those of parameters, and names of parameters, one further.
 use Rattle.std.proofs.Common.{◌≡◌, ◌≢◌, ℕ, suc, ◌+◌, ◌<◌, Bool, true, false, ◌&&◌, List, [], ◌∷◌, length, drop, get_or, refl, sym, ap, ◌∙◌, add-one, drop-cons}
-use Rattle.ir_check.specs.Rules.{Known, same_ty, same_types, are_params_once, is_param_at}
+use Rattle.ir_check.specs.Meanings.{LocalOf, is_param_at}
+use Rattle.ir_check.specs.Rules.{same_ty, same_types, are_params_once}
 use Rattle.ir_tree.specs.declared.types.Operand.{Operand}
 use Rattle.ir_tree.specs.declared.types.Ty.{Ty}
 
@@ -20,7 +21,7 @@ types_step args params i a p h k =
     let y = get_or params i p in
     (λ j. same_types (drop-cons args i a h j) (drop-cons params i p k j)) ∙ (λ j. same_ty x.0 y.0 && same_types (drop (sym (add-one i) j) args) (drop (sym (add-one i) j) params))
 
-pub params_step : (known : Known) (params : List (Ty × List ℕ)) (i : ℕ) (p : Ty × List ℕ) → i < length params → are_params_once known i (drop i params) ≡ (is_param_at i (known (get_or params i p).1) && are_params_once known (i + 1) (drop (i + 1) params))
+pub params_step : (known : LocalOf) (params : List (Ty × List ℕ)) (i : ℕ) (p : Ty × List ℕ) → i < length params → are_params_once known i (drop i params) ≡ (is_param_at i (known (get_or params i p).1) && are_params_once known (i + 1) (drop (i + 1) params))
 params_step known params i p h =
     let y = get_or params i p in
     (λ j. are_params_once known i (drop-cons params i p h j)) ∙ (λ j. is_param_at i (known y.1) && are_params_once known (i + 1) (drop (sym (add-one i) j) params))

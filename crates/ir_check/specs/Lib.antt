@@ -1,10 +1,12 @@
 pub mod Accepted
 pub mod Arrivals
+pub mod Built
 pub mod EdgeEntries
-pub mod Form
+pub mod HaveGraphs
+pub mod HaveNumbers
 pub mod Limits
-pub mod Lists
-pub mod Locals
+pub mod Meanings
 pub mod ModuleKind
 pub mod Phis
 pub mod Rules
+pub mod Tally

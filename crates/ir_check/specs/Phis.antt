@@ -1,37 +1,29 @@
 -- Rule 10: a phi has one entry for each successor position that names its block, under the name of the block to which
 -- the position belongs, and no other entry; entries that name one block have equal values.
-use Rattle.std.specs.Prelude.{ℕ, ◌+◌, Bool, true, false, not, ◌&&◌, ◌==◌, nat_lt, List, [], ◌∷◌, ◌++◌, length, map, flat_map, find, count_by, Option, None, Some}
+use Rattle.std.specs.Prelude.{ℕ, ◌+◌, Bool, true, false, not, ◌&&◌, ◌==◌, nat_lt, List, [], ◌∷◌, length, map, flat_map, count_by, Option, None, Some}
 use Rattle.std.specs.List.{list_all}
-use Rattle.ir_check.specs.Lists.{each, only_if}
-use Rattle.ir_check.specs.Locals.{known_in}
-use Rattle.ir_check.specs.Rules.{Known, is_label, is_label_at, place, below_ten, above_ten, broken}
-use Rattle.ir_check.specs.declared.locals.Local.{Local}
-use Rattle.ir_check.specs.declared.place.Place.{Place}
-use Rattle.ir_tree.specs.Names.{same}
+use Rattle.ir_check.specs.Meanings.{LocalOf, is_label, is_label_at}
+use Rattle.ir_tree.specs.Operands.{Entries, same_operand}
+use Rattle.ir_tree.specs.Phis.{entries_of, entry_for}
 use Rattle.ir_tree.specs.Successors.{successors}
+use Rattle.ir_tree.specs.declared.locals.Local.{Local}
 use Rattle.ir_tree.specs.declared.types.Block.{Block}
-use Rattle.ir_tree.specs.declared.types.Function.{Function}
 use Rattle.ir_tree.specs.declared.types.Instr.{Instr}
-use Rattle.ir_tree.specs.declared.types.Instr.TheVariants as instr
 use Rattle.ir_tree.specs.declared.types.Operand.{Operand}
-use Rattle.ir_tree.specs.declared.types.Operand.TheVariants as operand
-
--- values with the labels of the blocks that they come from
-abbrev pub Entries : Type 0
-Entries = List (Operand × List ℕ)
+use Rattle.spec_lists.specs.Each.{each, only_if}
 
 -- ---- as many entries as successor positions
 
 -- how many successor positions of a block name block b
-abbrev pub positions_to : Known → ℕ → Block → ℕ
+abbrev pub positions_to : LocalOf → ℕ → Block → ℕ
 positions_to known b block = count_by (λ to. is_label_at b (known to)) (successors block.term)
 
 -- how many entries name block p
-abbrev pub entries_for : Known → Entries → ℕ → ℕ
+abbrev pub entries_for : LocalOf → Entries → ℕ → ℕ
 entries_for known entries p = count_by (λ e. is_label_at p (known e.1)) entries
 
 -- for each block, counted from p, as many entries name it as it has successor positions that name block b
-abbrev pub are_as_many : Known → ℕ → Entries → ℕ → List Block → Bool
+abbrev pub are_as_many : LocalOf → ℕ → Entries → ℕ → List Block → Bool
 are_as_many known b entries p [] = true
 are_as_many known b entries p (block ∷ blocks) = entries_for known entries p == positions_to known b block && are_as_many known b entries (p + 1) blocks
 
@@ -42,62 +34,44 @@ is_block n (Some l) = is_label l.kind && nat_lt l.block n
 
 -- ---- equal values
 
-abbrev pub same_operand : Operand → Operand → Bool
-same_operand (operand.Int x) (operand.Int y) = x == y
-same_operand operand.Null operand.Null = true
-same_operand (operand.Local x) (operand.Local y) = same x y
-same_operand (operand.Global x) (operand.Global y) = same x y
-same_operand _ _ = false
-
--- the first entry that names a block
-abbrev pub entry_for : Entries → List ℕ → Option (Operand × List ℕ)
-entry_for entries name = find (λ e. same name e.1) entries
-
 abbrev pub has_value : Operand → Option (Operand × List ℕ) → Bool
 has_value value None = false
 has_value value (Some e) = same_operand value e.0
 
 -- each entry has the value of the first that names the same block
 abbrev pub have_one_value : Entries → Bool
-have_one_value entries = list_all (λ e. has_value e.0 (entry_for entries e.1)) entries
+have_one_value entries = list_all (λ e. has_value e.0 (entry_for e.1 entries)) entries
 
 -- ---- which phis break the rule
 
-abbrev pub are_matched : Known → List Block → ℕ → Entries → Bool
+abbrev pub are_matched : LocalOf → List Block → ℕ → Entries → Bool
 are_matched known blocks b entries = list_all (λ e. is_block (length blocks) (known e.1)) entries && are_as_many known b entries 0 blocks && have_one_value entries
 
-abbrev pub is_matched : Known → List Block → ℕ → Instr → Bool
-is_matched known blocks b (instr.Phi dest t entries) = are_matched known blocks b entries
-is_matched known blocks b _ = true
+abbrev pub are_matched_if_any : LocalOf → List Block → ℕ → Option Entries → Bool
+are_matched_if_any known blocks b None = true
+are_matched_if_any known blocks b (Some entries) = are_matched known blocks b entries
 
-abbrev pub unmatched_items : Known → List Block → ℕ → List Instr → List ℕ
+abbrev pub is_matched : LocalOf → List Block → ℕ → Instr → Bool
+is_matched known blocks b x = are_matched_if_any known blocks b (entries_of x)
+
+abbrev pub unmatched_items : LocalOf → List Block → ℕ → List Instr → List ℕ
 unmatched_items known blocks b instrs = each (λ i x. only_if (not (is_matched known blocks b x)) i) 0 instrs
 
-abbrev pub unmatched_spots : Known → List Block → ℕ → Block → List (ℕ × ℕ)
+abbrev pub unmatched_spots : LocalOf → List Block → ℕ → Block → List (ℕ × ℕ)
 unmatched_spots known blocks b block = map (λ i. (b, i)) (unmatched_items known blocks b block.instrs)
 
-abbrev pub unmatched_in : Known → List Block → List (ℕ × ℕ)
+-- the phis of these blocks that break the rule, each as its block and its item in it
+abbrev pub unmatched_in : LocalOf → List Block → List (ℕ × ℕ)
 unmatched_in known blocks = each (unmatched_spots known blocks) 0 blocks
-
-abbrev pub unmatched_of : ℕ → Function → List Place
-unmatched_of k f = map (place k) (unmatched_in (known_in f) f.blocks)
-
--- the places of a module that break rule 10
-unfoldable pub unmatched : List Function → List Place
-unmatched functions = each unmatched_of 0 functions
-
--- each rule that a module breaks with each place that breaks it, in order of number
-unfoldable pub all_broken : List Function → List (ℕ × Place)
-all_broken functions = broken below_ten functions ++ (map (λ p. (10, p)) (unmatched functions) ++ broken above_ten functions)
 
 -- ---- the blocks from which a block is entered
 
 -- the number of a block, once for each of these labels that names block b
-abbrev pub each_arrival : Known → ℕ → ℕ → List (List ℕ) → List ℕ
+abbrev pub each_arrival : LocalOf → ℕ → ℕ → List (List ℕ) → List ℕ
 each_arrival known b p labels = flat_map (λ to. only_if (is_label_at b (known to)) p) labels
 
 -- the numbers of the blocks whose successor positions name block b, one for each position, rising
-abbrev pub arrivals : Known → ℕ → List Block → List ℕ
+abbrev pub arrivals : LocalOf → ℕ → List Block → List ℕ
 arrivals known b blocks = each (λ p block. each_arrival known b p (successors block.term)) 0 blocks
 
 -- the number of the block that a name stands for
@@ -105,5 +79,5 @@ abbrev pub block_number : Option Local → List ℕ
 block_number None = []
 block_number (Some l) = only_if (is_label l.kind) l.block
 
-abbrev pub numbers_of : Known → Entries → List ℕ
+abbrev pub numbers_of : LocalOf → Entries → List ℕ
 numbers_of known entries = flat_map (λ e. block_number (known e.1)) entries

@@ -1,18 +1,27 @@
 -- The rules, each as the list of the places that break it, in text order.
-use Rattle.std.specs.Prelude.{ℕ, ◌+◌, ◌<◌, ◌≤◌, get_or, Bool, true, false, not, ◌&&◌, ◌||◌, ◌==◌, nat_le, nat_lt, List, [], ◌∷◌, ◌++◌, length, map, flat_map, position, Option, None, Some, is_some, slice_get}
-use Rattle.std.specs.List.{list_all, prefix_len}
+use Rattle.std.specs.Prelude.{ℕ, ◌+◌, ◌<◌, ◌≤◌, get_or, Bool, true, false, not, ◌&&◌, ◌||◌, ◌==◌, nat_lt, cond, List, [], ◌∷◌, ◌++◌, length, map, flat_map, codes, Option, None, Some, is_some, slice_get}
+use Rattle.std.specs.List.{list_all}
 use Rattle.std.specs.Option.{option_and_then}
 use denote.Enum.Bare.{sameb}
-use Rattle.ir_check.specs.Lists.{each, only_if}
-use Rattle.ir_check.specs.Locals.{given, known_in}
-use Rattle.ir_check.specs.declared.locals.Local.{Local}
-use Rattle.ir_check.specs.declared.locals.LocalKind.{LocalKind}
-use Rattle.ir_check.specs.declared.locals.LocalKind.TheVariants as kind
+use Rattle.ir_check.specs.Meanings.{LocalOf, PlaceOf, is_label, is_label_at, is_param_at, is_result_at, is_target, is_value}
+use Rattle.ir_check.specs.ModuleKind.{kind_of}
+use Rattle.ir_check.specs.Phis.{unmatched_in}
+use Rattle.ir_check.specs.declared.place.Kind.{Kind}
+use Rattle.ir_check.specs.declared.place.Kind.TheVariants.{Plain, Counted, Lowered}
 use Rattle.ir_check.specs.declared.place.Place.{Place}
 use Rattle.ir_check.specs.declared.rule.Rule.{Rule}
 use Rattle.ir_check.specs.declared.rule.Rule.TheVariants as rule
-use Rattle.ir_tree.specs.Names.{same}
+use Rattle.ir_tree.specs.Functions.{begins_with, function_place, is_declared}
+use Rattle.ir_tree.specs.Locals.{first_local}
+use Rattle.ir_tree.specs.Operands.{Entries, Use, operands, result_of, term_operand}
+use Rattle.ir_tree.specs.Phis.{entries_of, is_phi, phi_count}
+use Rattle.ir_tree.specs.Spelling.{is_empty, is_global_name, is_local_name}
+use Rattle.ir_tree.specs.Successors.{successors}
+use Rattle.ir_tree.specs.Types.{is_integer_of, is_pointer_type}
 use Rattle.ir_tree.specs.contracts.types.Ty.{the_type}
+use Rattle.ir_tree.specs.declared.locals.Local.{Local}
+use Rattle.ir_tree.specs.declared.locals.LocalKind.{LocalKind}
+use Rattle.ir_tree.specs.declared.locals.LocalKind.TheVariants as kind
 use Rattle.ir_tree.specs.declared.types.Block.{Block}
 use Rattle.ir_tree.specs.declared.types.Function.{Function}
 use Rattle.ir_tree.specs.declared.types.Instr.{Instr}
@@ -24,113 +33,49 @@ use Rattle.ir_tree.specs.declared.types.Ret.TheVariants as ret
 use Rattle.ir_tree.specs.declared.types.Term.{Term}
 use Rattle.ir_tree.specs.declared.types.Term.TheVariants as term
 use Rattle.ir_tree.specs.declared.types.Ty.{Ty}
-use Rattle.ir_tree.specs.declared.types.Ty.TheVariants as ty
-
--- what a name of a function stands for, and the first place of a name among the functions
-abbrev pub Known : Type 0
-Known = List ℕ → Option Local
-
-abbrev pub Named : Type 0
-Named = List ℕ → Option ℕ
-
-abbrev pub place_in : List Function → Named
-place_in functions name = position (same name) (map (λ f. f.name) functions)
+use Rattle.spec_lists.specs.Each.{each, only_if}
 
 -- ---- names
 
--- a byte that a name may have: a printing one other than the double quote, `#`, `:` and the backslash
-unfoldable pub is_name_byte : ℕ → Bool
-is_name_byte b = nat_le 33 b && nat_le b 126 && not (b == 34) && not (b == 35) && not (b == 58) && not (b == 92)
-
-unfoldable pub is_digit : ℕ → Bool
-is_digit b = nat_le 48 b && nat_le b 57
-
-unfoldable pub is_name : List ℕ → Bool
-is_name name = not (length name == 0) && list_all is_name_byte name
-
--- the name of a function isn't digits alone
-unfoldable pub is_global_name : List ℕ → Bool
-is_global_name name = is_name name && not (list_all is_digit name)
-
 -- a parameter has a name in a definition, and the empty name in a declaration
 abbrev pub is_param_name : Bool → List ℕ → Bool
-is_param_name true name = length name == 0
-is_param_name false name = is_name name
+is_param_name true name = is_empty name
+is_param_name false name = is_local_name name
 
 abbrev pub is_at : ℕ → Option ℕ → Bool
 is_at k None = false
 is_at k (Some place) = place == k
 
-abbrev pub is_given_name : Option (List ℕ × Ret) → Bool
-is_given_name None = true
-is_given_name (Some r) = is_name r.0
+abbrev pub is_result_name : Option (List ℕ × Ret) → Bool
+is_result_name None = true
+is_result_name (Some r) = is_local_name r.0
 
--- ---- what a name stands for
+abbrev pub has_names : PlaceOf → ℕ → Function → Bool
+has_names named k f = is_global_name f.name && is_at k (named f.name) && list_all (λ p. is_param_name (is_declared f) p.1) f.params
 
-abbrev pub is_param : LocalKind → Bool
-is_param (kind.Param t) = true
-is_param _ = false
+-- the names that no function of such a module has, since they are those of the profile runtime or of what instrumentation adds
+unfoldable pub is_reserved : Kind → List ℕ → Bool
+is_reserved Plain name = begins_with (codes "__prof") name || (begins_with (codes "__llvm_profile") name || begins_with (codes "llvm.instrprof.") name)
+is_reserved Counted name = begins_with (codes "__profc_") name || (begins_with (codes "__profd_") name || begins_with (codes "__llvm_profile") name)
+is_reserved Lowered name = begins_with (codes "llvm.instrprof.") name
 
-abbrev pub is_result : LocalKind → Bool
-is_result (kind.Result r) = true
-is_result _ = false
+abbrev pub is_result_once : LocalOf → ℕ → ℕ → Option (List ℕ × Ret) → Bool
+is_result_once known b i None = true
+is_result_once known b i (Some r) = is_result_at b i (known r.0)
 
-abbrev pub is_label : LocalKind → Bool
-is_label kind.Label = true
-is_label _ = false
-
-abbrev pub is_param_at : ℕ → Option Local → Bool
-is_param_at i None = false
-is_param_at i (Some l) = is_param l.kind && l.item == i
-
-abbrev pub is_label_at : ℕ → Option Local → Bool
-is_label_at b None = false
-is_label_at b (Some l) = is_label l.kind && l.block == b
-
-abbrev pub is_result_at : ℕ → ℕ → Option Local → Bool
-is_result_at b i None = false
-is_result_at b i (Some l) = is_result l.kind && l.block == b && l.item == i
-
-abbrev pub is_given_once : Known → ℕ → ℕ → Option (List ℕ × Ret) → Bool
-is_given_once known b i None = true
-is_given_once known b i (Some r) = is_result_at b i (known r.0)
-
-abbrev pub are_params_once : Known → ℕ → List (Ty × List ℕ) → Bool
+abbrev pub are_params_once : LocalOf → ℕ → List (Ty × List ℕ) → Bool
 are_params_once known i [] = true
 are_params_once known i (p ∷ ps) = is_param_at i (known p.1) && are_params_once known (i + 1) ps
 
 -- ---- labels
 
--- a block other than the first
-abbrev pub is_target : Option Local → Bool
-is_target None = false
-is_target (Some l) = is_label l.kind && not (l.block == 0)
+abbrev pub are_targets : LocalOf → Term → Bool
+are_targets known t = list_all (λ to. is_target (known to)) (successors t)
 
-abbrev pub are_targets : Known → Term → Bool
-are_targets known (term.Br to) = is_target (known to)
-are_targets known (term.CondBr cond first second prof) = is_target (known first) && is_target (known second)
-are_targets known _ = true
-
--- ---- operands, of the instructions and terminators that are built
-
-abbrev pub all_operands : (Ty → Operand → Bool) → Instr → Bool
-all_operands test (instr.Binary dest op flags t left right) = test t left && test t right
-all_operands test (instr.Compare dest pred t left right) = test t left && test t right
-all_operands test (instr.Phi dest t entries) = list_all (λ e. test t e.0) entries
-all_operands test (instr.Call dest r callee args prof) = test ty.Ptr callee && list_all (λ arg. test arg.0 arg.1) args
-all_operands test _ = true
-
-abbrev pub all_in_term : (Ty → Operand → Bool) → Term → Bool
-all_in_term test (term.CondBr cond first second prof) = test ty.I1 cond
-all_in_term test (term.Ret (Some value)) = test value.0 value.1
-all_in_term test _ = true
-
-abbrev pub is_value : Option Local → Bool
-is_value None = false
-is_value (Some l) = not (is_label l.kind)
+-- ---- operands
 
 -- a local operand is a parameter or result, a global one a function
-abbrev pub exists : Known → Named → Operand → Bool
+abbrev pub exists : LocalOf → PlaceOf → Operand → Bool
 exists known named (operand.Int value) = true
 exists known named operand.Null = true
 exists known named (operand.Local name) = is_value (known name)
@@ -138,19 +83,6 @@ exists known named (operand.Global name) = is_some (named name)
 
 unfoldable pub same_ty : Ty → Ty → Bool
 same_ty = sameb the_type
-
-abbrev pub is_ptr : Ty → Bool
-is_ptr ty.Ptr = true
-is_ptr _ = false
-
--- a literal stands at an integer type and is below 2 to its width
-abbrev pub is_literal : Ty → ℕ → Bool
-is_literal ty.I1 value = nat_lt value 2
-is_literal ty.I8 value = nat_lt value 256
-is_literal ty.I16 value = nat_lt value 65536
-is_literal ty.I32 value = nat_lt value 4294967296
-is_literal ty.I64 value = nat_lt value 18446744073709551616
-is_literal ty.Ptr value = false
 
 abbrev pub gives_ty : Ty → Ret → Bool
 gives_ty t ret.Void = false
@@ -165,12 +97,13 @@ abbrev pub has_ty : Ty → Option Local → Bool
 has_ty t None = false
 has_ty t (Some l) = kind_has_ty t l.kind
 
--- an operand has the type of its place
-abbrev pub fits : Known → Ty → Operand → Bool
-fits known t (operand.Int value) = is_literal t value
-fits known t operand.Null = is_ptr t
+-- an operand has the type of its place: a literal stands at an integer type and is below 2 to its width, `null` and the
+-- address of a global stand at a pointer
+abbrev pub fits : LocalOf → Ty → Operand → Bool
+fits known t (operand.Int value) = is_integer_of t value
+fits known t operand.Null = is_pointer_type t
 fits known t (operand.Local name) = has_ty t (known name)
-fits known t (operand.Global name) = is_ptr t
+fits known t (operand.Global name) = is_pointer_type t
 
 abbrev pub kind_is_earlier : ℕ → ℕ → Local → LocalKind → Bool
 kind_is_earlier b i l (kind.Param t) = true
@@ -182,9 +115,41 @@ stands_earlier b i None = false
 stands_earlier b i (Some l) = kind_is_earlier b i l l.kind
 
 -- a local operand is a parameter, or a result of the same block that stands before
-abbrev pub is_earlier : Known → ℕ → ℕ → Operand → Bool
+abbrev pub is_earlier : LocalOf → ℕ → ℕ → Operand → Bool
+is_earlier known b i (operand.Int value) = true
+is_earlier known b i operand.Null = true
 is_earlier known b i (operand.Local name) = stands_earlier b i (known name)
-is_earlier known b i _ = true
+is_earlier known b i (operand.Global name) = true
+
+-- an operand of item i in block b keeps a rule on operands
+unfoldable pub use_keeps : Rule → LocalOf → PlaceOf → ℕ → ℕ → Use → Bool
+use_keeps rule.Names known named b i u = true
+use_keeps rule.Reserved known named b i u = true
+use_keeps rule.Distinct known named b i u = true
+use_keeps rule.Targets known named b i u = true
+use_keeps rule.Phis known named b i u = true
+use_keeps rule.Entries known named b i u = true
+use_keeps rule.Operands known named b i u = exists known named u.1
+use_keeps rule.Types known named b i u = fits known u.0 u.1
+use_keeps rule.Calls known named b i u = true
+use_keeps rule.Returns known named b i u = true
+use_keeps rule.Order known named b i u = is_earlier known b i u.1
+
+abbrev pub uses_keep : Rule → LocalOf → PlaceOf → ℕ → ℕ → Instr → Bool
+uses_keep rule known named b i x = list_all (use_keeps rule known named b i) (operands x)
+
+abbrev pub if_any : {A : Type 0} → (A → Bool) → Option A → Bool
+if_any test None = true
+if_any test (Some x) = test x
+
+abbrev pub term_keeps : Rule → LocalOf → PlaceOf → ℕ → ℕ → Term → Bool
+term_keeps rule known named b i t = if_any (use_keeps rule known named b i) (term_operand t)
+
+-- ---- phis
+
+-- a phi stands in another block than the first, among the phis at the head of its block; these are `lead` many
+abbrev pub is_placed_well : ℕ → ℕ → ℕ → Instr → Bool
+is_placed_well lead b i x = not (is_phi x) || (not (b == 0) && nat_lt i lead)
 
 -- the block of the label that a name stands for is the one in which the local stands
 abbrev pub is_in_block_of : Option Local → Local → Bool
@@ -200,41 +165,39 @@ abbrev pub stands_in : Option Local → Option Local → Bool
 stands_in from None = false
 stands_in from (Some l) = kind_comes_from from l l.kind
 
-abbrev pub value_comes_from : Known → Option Local → Operand → Bool
+abbrev pub value_comes_from : LocalOf → Option Local → Operand → Bool
+value_comes_from known from (operand.Int value) = true
+value_comes_from known from operand.Null = true
 value_comes_from known from (operand.Local name) = stands_in from (known name)
-value_comes_from known from _ = true
+value_comes_from known from (operand.Global name) = true
 
 -- a local value of a phi is a parameter, or a result of the block that its entry names
-abbrev pub comes_from : Known → Operand × List ℕ → Bool
+abbrev pub comes_from : LocalOf → Operand × List ℕ → Bool
 comes_from known e = value_comes_from known (known e.1) e.0
 
-abbrev pub are_earlier : Known → ℕ → ℕ → Instr → Bool
-are_earlier known b i (instr.Phi dest t entries) = list_all (comes_from known) entries
-are_earlier known b i x = all_operands (λ t v. is_earlier known b i v) x
+abbrev pub in_order : LocalOf → PlaceOf → ℕ → ℕ → Instr → Option Entries → Bool
+in_order known named b i x None = uses_keep rule.Order known named b i x
+in_order known named b i x (Some entries) = list_all (comes_from known) entries
 
--- ---- phis
-
-abbrev pub is_phi : Instr → Bool
-is_phi (instr.Phi dest t entries) = true
-is_phi _ = false
-
--- a phi stands in another block than the first, among the phis at the head of its block; these are `lead` many
-abbrev pub is_placed_well : ℕ → ℕ → ℕ → Instr → Bool
-is_placed_well lead b i x = not (is_phi x) || (not (b == 0) && nat_lt i lead)
+-- the values of a phi come from the blocks of its entries, the operands of another instruction stand before it
+abbrev pub is_in_order : LocalOf → PlaceOf → ℕ → ℕ → Instr → Bool
+is_in_order known named b i x = in_order known named b i x (entries_of x)
 
 -- ---- calls and returns
 
 abbrev pub same_ret : Ret → Ret → Bool
 same_ret ret.Void ret.Void = true
+same_ret ret.Void (ret.Value u) = false
+same_ret (ret.Value t) ret.Void = false
 same_ret (ret.Value t) (ret.Value u) = same_ty t u
-same_ret _ _ = false
 
 abbrev pub same_types : List (Ty × Operand) → List (Ty × List ℕ) → Bool
 same_types [] [] = true
+same_types [] (p ∷ params) = false
+same_types (a ∷ args) [] = false
 same_types (a ∷ args) (p ∷ params) = same_ty a.0 p.0 && same_types args params
-same_types _ _ = false
 
-abbrev pub called : Named → List Function → List ℕ → Option Function
+abbrev pub called : PlaceOf → List Function → List ℕ → Option Function
 called named functions name = option_and_then (slice_get functions) (named name)
 
 abbrev pub has_signature : Ret → List (Ty × Operand) → Option Function → Bool
@@ -242,18 +205,29 @@ has_signature r args None = false
 has_signature r args (Some f) = same_ret r f.ret && same_types args f.params
 
 -- the callee is a local, or a function with the call's types
-abbrev pub is_callee : Named → List Function → Ret → List (Ty × Operand) → Operand → Bool
+abbrev pub is_callee : PlaceOf → List Function → Ret → List (Ty × Operand) → Operand → Bool
+is_callee named functions r args (operand.Int value) = false
+is_callee named functions r args operand.Null = false
 is_callee named functions r args (operand.Local name) = true
 is_callee named functions r args (operand.Global name) = has_signature r args (called named functions name)
-is_callee named functions r args _ = false
 
 abbrev pub may_name : Ret → Option (List ℕ) → Bool
 may_name ret.Void dest = not (is_some dest)
 may_name (ret.Value t) dest = true
 
-abbrev pub calls_well : Named → List Function → Instr → Bool
+abbrev pub calls_well : PlaceOf → List Function → Instr → Bool
+calls_well named functions (instr.Binary dest op flags ty left right) = true
+calls_well named functions (instr.Compare dest pred ty left right) = true
+calls_well named functions (instr.Convert dest op flags from value to) = true
+calls_well named functions (instr.Freeze dest ty value) = true
+calls_well named functions (instr.Select dest cond ty first second prof) = true
+calls_well named functions (instr.Phi dest ty entries) = true
+calls_well named functions (instr.Alloca dest mem) = true
+calls_well named functions (instr.Load dest ty address) = true
+calls_well named functions (instr.Store ty value address) = true
+calls_well named functions (instr.Gep dest inbounds mem address indices) = true
 calls_well named functions (instr.Call dest r callee args prof) = may_name r dest && is_callee named functions r args callee
-calls_well named functions _ = true
+calls_well named functions (instr.Count symbol size index step) = true
 
 abbrev pub returned_ty : Ret → Option (Ty × Operand) → Bool
 returned_ty ret.Void value = not (is_some value)
@@ -261,93 +235,134 @@ returned_ty (ret.Value t) None = false
 returned_ty (ret.Value t) (Some value) = same_ty t value.0
 
 abbrev pub returns_well : Ret → Term → Bool
+returns_well r (term.Br to) = true
+returns_well r (term.CondBr cond first second prof) = true
+returns_well r (term.Switch ty value default cases prof) = true
 returns_well r (term.Ret value) = returned_ty r value
-returns_well r _ = true
+returns_well r term.Unreachable = true
 
 -- ---- which items break a rule
 
-unfoldable pub instr_breaks : Rule → Known → Named → List Function → ℕ → ℕ → ℕ → Instr → Bool
-instr_breaks rule.Names known named functions lead b i x = not (is_given_name (given x))
-instr_breaks rule.Distinct known named functions lead b i x = not (is_given_once known b i (given x))
+unfoldable pub instr_breaks : Rule → LocalOf → PlaceOf → List Function → ℕ → ℕ → ℕ → Instr → Bool
+instr_breaks rule.Names known named functions lead b i x = not (is_result_name (result_of x))
+instr_breaks rule.Reserved known named functions lead b i x = false
+instr_breaks rule.Distinct known named functions lead b i x = not (is_result_once known b i (result_of x))
 instr_breaks rule.Targets known named functions lead b i x = false
 instr_breaks rule.Phis known named functions lead b i x = not (is_placed_well lead b i x)
-instr_breaks rule.Operands known named functions lead b i x = not (all_operands (λ t v. exists known named v) x)
-instr_breaks rule.Types known named functions lead b i x = not (all_operands (fits known) x)
+instr_breaks rule.Entries known named functions lead b i x = false
+instr_breaks rule.Operands known named functions lead b i x = not (uses_keep rule.Operands known named b i x)
+instr_breaks rule.Types known named functions lead b i x = not (uses_keep rule.Types known named b i x)
 instr_breaks rule.Calls known named functions lead b i x = not (calls_well named functions x)
 instr_breaks rule.Returns known named functions lead b i x = false
-instr_breaks rule.Order known named functions lead b i x = not (are_earlier known b i x)
+instr_breaks rule.Order known named functions lead b i x = not (is_in_order known named b i x)
 
-unfoldable pub term_breaks : Rule → Known → Named → Ret → ℕ → ℕ → Term → Bool
+unfoldable pub term_breaks : Rule → LocalOf → PlaceOf → Ret → ℕ → ℕ → Term → Bool
 term_breaks rule.Names known named r b i t = false
+term_breaks rule.Reserved known named r b i t = false
 term_breaks rule.Distinct known named r b i t = false
 term_breaks rule.Targets known named r b i t = not (are_targets known t)
 term_breaks rule.Phis known named r b i t = false
-term_breaks rule.Operands known named r b i t = not (all_in_term (λ u v. exists known named v) t)
-term_breaks rule.Types known named r b i t = not (all_in_term (fits known) t)
+term_breaks rule.Entries known named r b i t = false
+term_breaks rule.Operands known named r b i t = not (term_keeps rule.Operands known named b i t)
+term_breaks rule.Types known named r b i t = not (term_keeps rule.Types known named b i t)
 term_breaks rule.Calls known named r b i t = false
 term_breaks rule.Returns known named r b i t = not (returns_well r t)
-term_breaks rule.Order known named r b i t = not (all_in_term (λ u v. is_earlier known b i v) t)
+term_breaks rule.Order known named r b i t = not (term_keeps rule.Order known named b i t)
 
-unfoldable pub label_breaks : Rule → Known → ℕ → List ℕ → Bool
-label_breaks rule.Names known b label = not (is_name label)
+unfoldable pub label_breaks : Rule → LocalOf → ℕ → List ℕ → Bool
+label_breaks rule.Names known b label = not (is_local_name label)
+label_breaks rule.Reserved known b label = false
 label_breaks rule.Distinct known b label = not (is_label_at b (known label))
-label_breaks _ known b label = false
-
-abbrev pub has_names : Named → ℕ → Function → Bool
-has_names named k f = is_global_name f.name && is_at k (named f.name) && list_all (λ p. is_param_name (length f.blocks == 0) p.1) f.params
+label_breaks rule.Targets known b label = false
+label_breaks rule.Phis known b label = false
+label_breaks rule.Entries known b label = false
+label_breaks rule.Operands known b label = false
+label_breaks rule.Types known b label = false
+label_breaks rule.Calls known b label = false
+label_breaks rule.Returns known b label = false
+label_breaks rule.Order known b label = false
 
 -- a name that stands more than once fails at each occurrence but the first
-unfoldable pub head_breaks : Rule → Known → Named → ℕ → Function → Bool
-head_breaks rule.Names known named k f = not (has_names named k f)
-head_breaks rule.Distinct known named k f = not (length f.blocks == 0) && not (are_params_once known 0 f.params)
-head_breaks _ known named k f = false
+unfoldable pub head_breaks : Rule → Kind → LocalOf → PlaceOf → ℕ → Function → Bool
+head_breaks rule.Names of known named k f = not (has_names named k f)
+head_breaks rule.Reserved of known named k f = is_reserved of f.name
+head_breaks rule.Distinct of known named k f = not (is_declared f) && not (are_params_once known 0 f.params)
+head_breaks rule.Targets of known named k f = false
+head_breaks rule.Phis of known named k f = false
+head_breaks rule.Entries of known named k f = false
+head_breaks rule.Operands of known named k f = false
+head_breaks rule.Types of known named k f = false
+head_breaks rule.Calls of known named k f = false
+head_breaks rule.Returns of known named k f = false
+head_breaks rule.Order of known named k f = false
 
 -- the items of a block that break a rule, the terminator last; a label is item 0
-unfoldable pub block_breaks : Rule → Known → Named → List Function → Ret → ℕ → Block → List ℕ
-block_breaks rule known named functions r b block = only_if (label_breaks rule known b block.label) 0 ++ (each (λ i x. only_if (instr_breaks rule known named functions (prefix_len is_phi block.instrs) b i x) i) 0 block.instrs ++ only_if (term_breaks rule known named r b (length block.instrs) block.term) (length block.instrs))
+unfoldable pub block_breaks : Rule → LocalOf → PlaceOf → List Function → Ret → ℕ → Block → List ℕ
+block_breaks rule known named functions r b block = only_if (label_breaks rule known b block.label) 0 ++ (each (λ i x. only_if (instr_breaks rule known named functions (phi_count block.instrs) b i x) i) 0 block.instrs ++ only_if (term_breaks rule known named r b (length block.instrs) block.term) (length block.instrs))
 
-abbrev pub block_spots : Rule → Known → Named → List Function → Ret → ℕ → Block → List (ℕ × ℕ)
+abbrev pub block_spots : Rule → LocalOf → PlaceOf → List Function → Ret → ℕ → Block → List (ℕ × ℕ)
 block_spots rule known named functions r b block = map (λ i. (b, i)) (block_breaks rule known named functions r b block)
 
+-- the rule on the entries of phis looks at all blocks of a function together
+abbrev pub phis_break : Rule → LocalOf → List Block → List (ℕ × ℕ)
+phis_break rule.Names known blocks = []
+phis_break rule.Reserved known blocks = []
+phis_break rule.Distinct known blocks = []
+phis_break rule.Targets known blocks = []
+phis_break rule.Phis known blocks = []
+phis_break rule.Entries known blocks = unmatched_in known blocks
+phis_break rule.Operands known blocks = []
+phis_break rule.Types known blocks = []
+phis_break rule.Calls known blocks = []
+phis_break rule.Returns known blocks = []
+phis_break rule.Order known blocks = []
+
 -- the blocks and items of a function that break a rule; its head and parameters are item 0 of block 0
-unfoldable pub function_breaks : Rule → Known → Named → List Function → ℕ → Function → List (ℕ × ℕ)
-function_breaks rule known named functions k f = only_if (head_breaks rule known named k f) (0, 0) ++ each (block_spots rule known named functions f.ret) 0 f.blocks
+unfoldable pub function_breaks : Rule → Kind → LocalOf → PlaceOf → List Function → ℕ → Function → List (ℕ × ℕ)
+function_breaks rule of known named functions k f = only_if (head_breaks rule of known named k f) (0, 0) ++ (each (block_spots rule known named functions f.ret) 0 f.blocks ++ phis_break rule known f.blocks)
 
 abbrev pub place : ℕ → ℕ × ℕ → Place
 place k at = record { function = k; block = at.0; item = at.1 }
 
-abbrev pub places_of : Rule → List Function → ℕ → Function → List Place
-places_of rule functions k f = map (place k) (function_breaks rule (known_in f) (place_in functions) functions k f)
-
--- the places of a module that break a rule
-unfoldable pub places : Rule → List Function → List Place
-places rule functions = each (places_of rule functions) 0 functions
+-- the places of one function of a module that break a rule
+unfoldable pub places_in : List Function → Rule → ℕ → Function → List Place
+places_in functions rule k f = map (place k) (function_breaks rule (kind_of functions) (first_local f) (function_place functions) functions k f)
 
 -- the numbers by which the rules are reported
 abbrev pub number : Rule → ℕ
 number rule.Names = 1
+number rule.Reserved = 3
 number rule.Distinct = 6
 number rule.Targets = 7
 number rule.Phis = 9
+number rule.Entries = 10
 number rule.Operands = 11
 number rule.Types = 12
 number rule.Calls = 13
 number rule.Returns = 14
 number rule.Order = 16
 
-abbrev pub numbered : List Function → Rule → List (ℕ × Place)
-numbered functions rule = map (λ p. (number rule, p)) (places rule functions)
+-- the rules in order of number
+abbrev pub all_rules : List Rule
+all_rules = rule.Names ∷ rule.Reserved ∷ rule.Distinct ∷ rule.Targets ∷ rule.Phis ∷ rule.Entries ∷ rule.Operands ∷ rule.Types ∷ rule.Calls ∷ rule.Returns ∷ rule.Order ∷ []
 
--- the rules below 10 and above it, in order of number; rule 10 looks at all blocks of a function together
-abbrev pub below_ten : List Rule
-below_ten = rule.Names ∷ rule.Distinct ∷ rule.Targets ∷ rule.Phis ∷ []
+-- for each of these rules, with its number, the places that are given for it
+abbrev pub numbered : (Rule → List Place) → List Rule → List (ℕ × Place)
+numbered given rules = flat_map (λ rule. map (λ p. (number rule, p)) (given rule)) rules
 
-abbrev pub above_ten : List Rule
-above_ten = rule.Operands ∷ rule.Types ∷ rule.Calls ∷ rule.Returns ∷ []
+-- each rule that some first functions of a module break with each place that breaks it, in order of number
+unfoldable pub faults : List Function → List Function → List (ℕ × Place)
+faults functions some = numbered (λ rule. each (places_in functions rule) 0 some) all_rules
 
--- each of the rules that a module breaks with each place that breaks it
-unfoldable pub broken : List Rule → List Function → List (ℕ × Place)
-broken rules functions = flat_map (numbered functions) rules
+-- each rule that a module breaks with each place that breaks it
+abbrev pub broken : List Function → List (ℕ × Place)
+broken functions = faults functions functions
+
+-- the one of the lower rule, the earlier one where both are of one rule
+abbrev pub lowest : Option (ℕ × Place) → Option (ℕ × Place) → Option (ℕ × Place)
+lowest None later = later
+lowest (Some a) None = Some a
+lowest (Some a) (Some b) = cond (nat_lt b.0 a.0) (Some b) (Some a)
 
 -- so few functions and blocks that their numbers fit a place
 pub record HasFew (functions : List Function) : Type 0 where

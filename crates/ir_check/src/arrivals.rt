@@ -1,15 +1,16 @@
 // The blocks from which each block of a function is entered.
 ghost use Rattle.std.specs.Prelude.{◌≡◌, [], map, replicate, IfOk, OnOk, Some};
+ghost use Rattle.std.specs.Option.{option_copied};
 ghost use Rattle.ir_check.specs.Arrivals.{EntersAll, Gains};
-ghost use Rattle.ir_check.specs.Lists.{only_if};
-ghost use Rattle.ir_check.specs.Locals.{known};
+ghost use Rattle.ir_check.specs.Meanings.{is_label_at};
 ghost use Rattle.ir_check.specs.Phis as spec;
-ghost use Rattle.ir_check.specs.Rules.{is_label_at};
+ghost use Rattle.ir_tree.specs.FunctionNames.{indexed};
+ghost use Rattle.ir_tree.specs.Operands.{listed};
 ghost use Rattle.ir_tree.specs.Successors.{successors};
+ghost use Rattle.spec_lists.specs.Each.{only_if};
 
-use crate::locals::{Local, Scope};
 use crate::names::is_label;
-use ir_tree::{Block, Name, Term};
+use ir_tree::{Block, FunctionIndex, Local, Name, Term};
 use pgo_base::NoMemory;
 use std::alloc::Global;
 
@@ -17,14 +18,14 @@ use std::alloc::Global;
 /// position, rising.
 pub(crate) fn arrivals_of(
     alloc: Global,
-    scope: &Scope,
+    locals: &FunctionIndex,
     blocks: &[Block],
 ) -> Result<Vec<Vec<usize>>, NoMemory>
-    ensures { IfOk result (λ lists. EntersAll (known scope.now) blocks.now lists) }
+    ensures { IfOk result (λ lists. EntersAll (indexed locals.now) blocks.now lists) }
 {
     let mut lists = empty_lists(alloc, blocks.len())?;
     for (p, block) in blocks.iter().enumerate() {
-        add_successors(&mut lists, scope, p, &block.term)?;
+        add_successors(&mut lists, locals, p, &block.term)?;
     }
     Ok(lists)
 }
@@ -41,45 +42,42 @@ fn empty_lists(alloc: Global, count: usize) -> Result<Vec<Vec<usize>>, NoMemory>
 
 fn add_successors(
     lists: &mut Vec<Vec<usize>>,
-    scope: &Scope,
+    locals: &FunctionIndex,
     p: usize,
     term: &Term,
 ) -> Result<(), NoMemory>
-    ensures { OnOk result (Gains lists.old lists.new (λ b. spec.each_arrival (known scope.now) b p (successors term.now))) }
+    ensures { OnOk result (Gains lists.old lists.new (λ b. spec.each_arrival (indexed locals.now) b p (successors term.now))) }
 {
-    match term {
-        Term::Br { to } => add(lists, scope, p, to),
-        Term::CondBr { yes, no, .. } => {
-            add(lists, scope, p, yes)?;
-            add(lists, scope, p, no)
-        }
-        Term::Switch { default, cases, .. } => {
-            add(lists, scope, p, default)?;
-            add_cases(lists, scope, p, cases.as_slice())
-        }
-        Term::Ret { .. } | Term::Unreachable => Ok(()),
-    }
-}
-
-fn add_cases(
-    lists: &mut Vec<Vec<usize>>,
-    scope: &Scope,
-    p: usize,
-    cases: &[(u64, Name)],
-) -> Result<(), NoMemory>
-    ensures { OnOk result (Gains lists.old lists.new (λ b. spec.each_arrival (known scope.now) b p (map (λ c. c.1) cases.now))) }
-{
-    for case in cases {
-        add(lists, scope, p, &case.1)?;
+    for position in 0..term.successor_count() {
+        add_named(lists, locals, p, term.successor(position))?;
     }
     Ok(())
 }
 
-// Puts the number of a block behind those from which the block with this label is entered.
-fn add(lists: &mut Vec<Vec<usize>>, scope: &Scope, p: usize, label: &Name) -> Result<(), NoMemory>
-    ensures { OnOk result (Gains lists.old lists.new (λ b. only_if (is_label_at b (known scope.now label.now)) p)) }
+fn add_named(
+    lists: &mut Vec<Vec<usize>>,
+    locals: &FunctionIndex,
+    p: usize,
+    label: Option<&Name>,
+) -> Result<(), NoMemory>
+    ensures { OnOk result (Gains lists.old lists.new (λ b. spec.each_arrival (indexed locals.now) b p (listed (option_copied label.entry)))) }
 {
-    match scope.find(label.bytes()) {
+    match label {
+        Some(to) => add(lists, locals, p, to),
+        None => Ok(()),
+    }
+}
+
+// Puts the number of a block behind those from which the block with this label is entered.
+fn add(
+    lists: &mut Vec<Vec<usize>>,
+    locals: &FunctionIndex,
+    p: usize,
+    label: &Name,
+) -> Result<(), NoMemory>
+    ensures { OnOk result (Gains lists.old lists.new (λ b. only_if (is_label_at b (indexed locals.now label.now)) p)) }
+{
+    match locals.find(label.bytes()) {
         Some(local) => add_to(lists, local, p),
         None => Ok(()),
     }

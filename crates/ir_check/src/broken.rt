@@ -1,113 +1,88 @@
-// The first place of a module that breaks a rule.
-ghost use Rattle.std.specs.Prelude.{◌≡◌, ◌<◌, ◌≤◌, ℕ, map, length, get_or, IfSome};
-ghost use Rattle.ir_check.specs.Lists.{each, first_of, only_if};
-ghost use Rattle.ir_check.specs.Locals.{known, known_in};
+// The first item of a function that breaks a rule.
+ghost use Rattle.std.specs.Prelude.{◌≡◌, ◌≤◌, length, IfOk, IfSome};
 ghost use Rattle.ir_check.specs.Rules as spec;
+ghost use Rattle.ir_tree.specs.FunctionNames.{indexed};
 ghost use Rattle.ir_tree.specs.Names.{first_place};
+ghost use Rattle.spec_lists.specs.Each.{each, first_of, only_if};
 
 use crate::calls::{are_targets, calls_well, returns_well};
-use crate::locals::Scope;
 use crate::names::{
-    are_param_names, are_params_once, is_given_name, is_given_once, is_global_name, is_label_at,
-    is_name,
+    are_param_names, are_params_once, is_label_at, is_reserved, is_result_name, is_result_once,
 };
-use crate::operands::{
-    all_exist, all_fit, are_earlier, earlier_in_term, exist_in_term, fit_in_term,
-};
-use crate::phis::{is_placed_well, leading_phis};
-use crate::place::Place;
+use crate::operands::{is_in_order, term_keeps, uses_keep};
+use crate::phis::{is_placed_well, unmatched_in};
+use crate::place::Kind;
 use crate::rule::Rule;
-use ir_tree::{Block, Function, Index, Instr, Ret, Term};
+use ir_tree::{
+    Block, Function, FunctionIndex, Index, Instr, Ret, Term, is_global_name, is_local_name,
+    phi_count,
+};
+use pgo_base::NoMemory;
+use std::alloc::Global;
 
-/// The first of the rules that is broken, by its number, and its first place.
-#[tactic(auto, using(crate::proofs::Firsts::flat_dropped, crate::proofs::Firsts::found_mapped, crate::proofs::Firsts::over_mapped), unfolding(crate::specs::Rules::broken))]
-pub(crate) fn first_broken(
-    rules: &[Rule],
-    names: &Index,
-    functions: &[Function],
-    scopes: &[Scope],
-) -> Option<(u8, Place)>
-    requires named { first_place names.now ≡ spec.place_in functions.now }
-    requires scoped { map known scopes.now ≡ map known_in functions.now }
-    requires few { spec.HasFew functions.now }
-    ensures { result ≡ first_of (spec.broken rules.now functions.now) }
-{
-    for rule in rules {
-        if let Some(place) = first_place_of(*rule, names, functions, scopes) {
-            return Some((rule.number(), place));
-        }
-    }
-    None
-}
-
-/// The first place that breaks the rule.
-#[tactic(auto, unfolding(crate::specs::Rules::places))]
-pub(crate) fn first_place_of(
+/// The first item of a function that breaks the rule, by its block and its number in it.
+#[tactic(auto, using(crate::proofs::Firsts::found_plain, crate::proofs::Firsts::over_plain), unfolding(crate::specs::Rules::function_breaks))]
+pub(crate) fn broken_in_function(
+    alloc: Global,
     rule: Rule,
+    of: Kind,
     names: &Index,
+    locals: &FunctionIndex,
     functions: &[Function],
-    scopes: &[Scope],
-) -> Option<Place>
-    requires named { first_place names.now ≡ spec.place_in functions.now }
-    requires scoped { map known scopes.now ≡ map known_in functions.now }
-    requires few { spec.HasFew functions.now }
-    ensures { result ≡ first_of (spec.places rule functions.now) }
-{
-    for (k, f) in functions.iter().enumerate() {
-        match broken_in_function(rule, names, functions, &scopes[k], k, f) {
-            Some(at) => return Some(placed(k, f.blocks.as_slice(), at)),
-            None => {}
-        }
-    }
-    None
-}
-
-/// The place of an item, in the numbers of a report.
-pub(crate) fn placed(k: usize, blocks: &[Block], at: (usize, usize)) -> Place
-    requires function { k < 65536 }
-    requires few { length blocks.now ≤ 1048576 }
-    requires within { at.0 ≤ length blocks.now }
-    ensures { result ≡ spec.place k at }
-{
-    Place {
-        function: k as u32,
-        block: at.0 as u32,
-        item: at.1 as u64,
-    }
-}
-
-#[tactic(auto, unfolding(crate::specs::Rules::function_breaks))]
-fn broken_in_function(
-    rule: Rule,
-    names: &Index,
-    functions: &[Function],
-    scope: &Scope,
     k: usize,
     f: &Function,
-) -> Option<(usize, usize)>
-    ensures found { result ≡ first_of (spec.function_breaks rule (known scope.now) (first_place names.now) functions.now k f.now) }
-    ensures within { IfSome result (λ at. at.0 ≤ length f.now.blocks) }
+) -> Result<Option<(usize, usize)>, NoMemory>
+    ensures found { IfOk result (λ found. found ≡ first_of (spec.function_breaks rule of (indexed locals.now) (first_place names.now) functions.now k f.now)) }
+    ensures within { IfOk result (λ found. IfSome found (λ at. at.0 ≤ length f.now.blocks)) }
 {
-    if head_breaks(rule, names, scope, k, f) {
-        return Some((0, 0));
+    if head_breaks(rule, of, names, locals, k, f) {
+        return Ok(Some((0, 0)));
     }
-    broken_in_blocks(rule, names, functions, scope, f.ret, f.blocks.as_slice())
+    let blocks = f.blocks.as_slice();
+    if let Some(at) = broken_in_blocks(rule, names, locals, functions, f.ret, blocks) {
+        return Ok(Some(at));
+    }
+    phis_break(alloc, rule, locals, blocks)
 }
 
-#[tactic(auto, using(crate::proofs::Each::each_dropped, crate::proofs::Firsts::found_mapped, crate::proofs::Firsts::over_mapped))]
+fn phis_break(
+    alloc: Global,
+    rule: Rule,
+    locals: &FunctionIndex,
+    blocks: &[Block],
+) -> Result<Option<(usize, usize)>, NoMemory>
+    ensures found { IfOk result (λ found. found ≡ first_of (spec.phis_break rule (indexed locals.now) blocks.now)) }
+    ensures within { IfOk result (λ found. IfSome found (λ at. at.0 ≤ length blocks.now)) }
+{
+    match rule {
+        Rule::Entries => unmatched_in(alloc, locals, blocks),
+        Rule::Names
+        | Rule::Reserved
+        | Rule::Distinct
+        | Rule::Targets
+        | Rule::Phis
+        | Rule::Operands
+        | Rule::Types
+        | Rule::Calls
+        | Rule::Returns
+        | Rule::Order => Ok(None),
+    }
+}
+
+#[tactic(auto, using(spec_lists::proofs::Each::each_dropped, crate::proofs::Firsts::found_mapped, crate::proofs::Firsts::over_mapped))]
 fn broken_in_blocks(
     rule: Rule,
     names: &Index,
+    locals: &FunctionIndex,
     functions: &[Function],
-    scope: &Scope,
     ret: Ret,
     blocks: &[Block],
 ) -> Option<(usize, usize)>
-    ensures found { result ≡ first_of (each (spec.block_spots rule (known scope.now) (first_place names.now) functions.now ret) 0 blocks.now) }
+    ensures found { result ≡ first_of (each (spec.block_spots rule (indexed locals.now) (first_place names.now) functions.now ret) 0 blocks.now) }
     ensures within { IfSome result (λ at. at.0 ≤ length blocks.now) }
 {
     for (b, block) in blocks.iter().enumerate() {
-        if let Some(i) = broken_in_block(rule, names, functions, scope, ret, b, block) {
+        if let Some(i) = broken_in_block(rule, names, locals, functions, ret, b, block) {
             return Some((b, i));
         }
     }
@@ -118,42 +93,42 @@ fn broken_in_blocks(
 fn broken_in_block(
     rule: Rule,
     names: &Index,
+    locals: &FunctionIndex,
     functions: &[Function],
-    scope: &Scope,
     ret: Ret,
     b: usize,
     block: &Block,
 ) -> Option<usize>
-    ensures { result ≡ first_of (spec.block_breaks rule (known scope.now) (first_place names.now) functions.now ret b block.now) }
+    ensures { result ≡ first_of (spec.block_breaks rule (indexed locals.now) (first_place names.now) functions.now ret b block.now) }
 {
-    if label_breaks(rule, scope, b, block.label.bytes()) {
+    if label_breaks(rule, locals, b, block.label.bytes()) {
         return Some(0);
     }
     let instrs = block.instrs.as_slice();
-    let lead = leading_phis(instrs);
-    if let Some(i) = broken_in_instrs(rule, names, functions, scope, lead, b, instrs) {
+    let lead = phi_count(instrs);
+    if let Some(i) = broken_in_instrs(rule, names, locals, functions, lead, b, instrs) {
         return Some(i);
     }
-    if term_breaks(rule, names, scope, ret, b, instrs.len(), &block.term) {
+    if term_breaks(rule, names, locals, ret, b, instrs.len(), &block.term) {
         return Some(instrs.len());
     }
     None
 }
 
-#[tactic(auto, using(crate::proofs::Each::each_dropped))]
+#[tactic(auto, using(spec_lists::proofs::Each::each_dropped))]
 fn broken_in_instrs(
     rule: Rule,
     names: &Index,
+    locals: &FunctionIndex,
     functions: &[Function],
-    scope: &Scope,
     lead: usize,
     b: usize,
     instrs: &[Instr],
 ) -> Option<usize>
-    ensures { result ≡ first_of (each (λ i x. only_if (spec.instr_breaks rule (known scope.now) (first_place names.now) functions.now lead b i x) i) 0 instrs.now) }
+    ensures { result ≡ first_of (each (λ i x. only_if (spec.instr_breaks rule (indexed locals.now) (first_place names.now) functions.now lead b i x) i) 0 instrs.now) }
 {
     for (i, instr) in instrs.iter().enumerate() {
-        if instr_breaks(rule, names, functions, scope, lead, b, i, instr) {
+        if instr_breaks(rule, names, locals, functions, lead, b, i, instr) {
             return Some(i);
         }
     }
@@ -161,15 +136,28 @@ fn broken_in_instrs(
 }
 
 #[tactic(auto, unfolding(crate::specs::Rules::head_breaks))]
-fn head_breaks(rule: Rule, names: &Index, scope: &Scope, k: usize, f: &Function) -> bool
-    ensures { result ≡ spec.head_breaks rule (known scope.now) (first_place names.now) k f.now }
+fn head_breaks(
+    rule: Rule,
+    of: Kind,
+    names: &Index,
+    locals: &FunctionIndex,
+    k: usize,
+    f: &Function,
+) -> bool
+    ensures { result ≡ spec.head_breaks rule of (indexed locals.now) (first_place names.now) k f.now }
 {
     match rule {
         Rule::Names => !has_names(names, k, f),
-        Rule::Distinct => {
-            !f.blocks.as_slice().is_empty() && !are_params_once(scope, f.params.as_slice())
-        }
-        _ => false,
+        Rule::Reserved => is_reserved(of, f.name.bytes()),
+        Rule::Distinct => { !f.is_declared() && !are_params_once(locals, f.params.as_slice()) }
+        Rule::Targets
+        | Rule::Phis
+        | Rule::Entries
+        | Rule::Operands
+        | Rule::Types
+        | Rule::Calls
+        | Rule::Returns
+        | Rule::Order => false,
     }
 }
 
@@ -178,7 +166,7 @@ fn has_names(names: &Index, k: usize, f: &Function) -> bool
 {
     is_global_name(f.name.bytes())
         && is_at(k, names.find(f.name.bytes()))
-        && are_param_names(f.blocks.as_slice().is_empty(), f.params.as_slice())
+        && are_param_names(f.is_declared(), f.params.as_slice())
 }
 
 fn is_at(k: usize, found: Option<usize>) -> bool
@@ -191,13 +179,21 @@ fn is_at(k: usize, found: Option<usize>) -> bool
 }
 
 #[tactic(auto, unfolding(crate::specs::Rules::label_breaks))]
-fn label_breaks(rule: Rule, scope: &Scope, b: usize, label: &[u8]) -> bool
-    ensures { result ≡ spec.label_breaks rule (known scope.now) b label.now }
+fn label_breaks(rule: Rule, locals: &FunctionIndex, b: usize, label: &[u8]) -> bool
+    ensures { result ≡ spec.label_breaks rule (indexed locals.now) b label.now }
 {
     match rule {
-        Rule::Names => !is_name(label),
-        Rule::Distinct => !is_label_at(b, scope.find(label)),
-        _ => false,
+        Rule::Names => !is_local_name(label),
+        Rule::Distinct => !is_label_at(b, locals.find(label)),
+        Rule::Reserved
+        | Rule::Targets
+        | Rule::Phis
+        | Rule::Entries
+        | Rule::Operands
+        | Rule::Types
+        | Rule::Calls
+        | Rule::Returns
+        | Rule::Order => false,
     }
 }
 
@@ -205,24 +201,24 @@ fn label_breaks(rule: Rule, scope: &Scope, b: usize, label: &[u8]) -> bool
 fn instr_breaks(
     rule: Rule,
     names: &Index,
+    locals: &FunctionIndex,
     functions: &[Function],
-    scope: &Scope,
     lead: usize,
     b: usize,
     i: usize,
     instr: &Instr,
 ) -> bool
-    ensures { result ≡ spec.instr_breaks rule (known scope.now) (first_place names.now) functions.now lead b i instr.now }
+    ensures { result ≡ spec.instr_breaks rule (indexed locals.now) (first_place names.now) functions.now lead b i instr.now }
 {
     match rule {
-        Rule::Names => !is_given_name(instr),
-        Rule::Distinct => !is_given_once(scope, b, i, instr),
+        Rule::Names => !is_result_name(instr),
+        Rule::Distinct => !is_result_once(locals, b, i, instr),
         Rule::Phis => !is_placed_well(lead, b, i, instr),
-        Rule::Operands => !all_exist(scope, names, instr),
-        Rule::Types => !all_fit(scope, instr),
+        Rule::Operands => !uses_keep(Rule::Operands, names, locals, b, i, instr),
+        Rule::Types => !uses_keep(Rule::Types, names, locals, b, i, instr),
         Rule::Calls => !calls_well(names, functions, instr),
-        Rule::Order => !are_earlier(scope, b, i, instr),
-        Rule::Targets | Rule::Returns => false,
+        Rule::Order => !is_in_order(names, locals, b, i, instr),
+        Rule::Reserved | Rule::Targets | Rule::Entries | Rule::Returns => false,
     }
 }
 
@@ -230,20 +226,21 @@ fn instr_breaks(
 fn term_breaks(
     rule: Rule,
     names: &Index,
-    scope: &Scope,
+    locals: &FunctionIndex,
     ret: Ret,
     b: usize,
     i: usize,
     term: &Term,
 ) -> bool
-    ensures { result ≡ spec.term_breaks rule (known scope.now) (first_place names.now) ret b i term.now }
+    ensures { result ≡ spec.term_breaks rule (indexed locals.now) (first_place names.now) ret b i term.now }
 {
     match rule {
-        Rule::Targets => !are_targets(scope, term),
-        Rule::Operands => !exist_in_term(scope, names, term),
-        Rule::Types => !fit_in_term(scope, term),
+        Rule::Targets => !are_targets(locals, term),
+        Rule::Operands => !term_keeps(Rule::Operands, names, locals, b, i, term),
+        Rule::Types => !term_keeps(Rule::Types, names, locals, b, i, term),
         Rule::Returns => !returns_well(ret, term),
-        Rule::Order => !earlier_in_term(scope, b, i, term),
-        Rule::Names | Rule::Distinct | Rule::Phis | Rule::Calls => false,
+        Rule::Order => !term_keeps(Rule::Order, names, locals, b, i, term),
+        Rule::Names | Rule::Reserved | Rule::Distinct | Rule::Phis | Rule::Entries | Rule::Calls =>
+            false,
     }
 }

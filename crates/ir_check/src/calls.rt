@@ -1,29 +1,39 @@
 // Branch targets, the types of calls and of returns.
 ghost use Rattle.std.specs.Prelude.{◌≡◌};
 ghost use Rattle.std.specs.Option.{option_copied};
-ghost use Rattle.ir_check.specs.Locals.{known};
+ghost use Rattle.ir_check.specs.Meanings as meaning;
 ghost use Rattle.ir_check.specs.Rules as spec;
+ghost use Rattle.ir_tree.specs.FunctionNames.{indexed};
 ghost use Rattle.ir_tree.specs.Names.{first_place};
 
-use crate::locals::{Local, Scope};
 use crate::names::is_label;
 use crate::operands::same_ty;
-use ir_tree::{Function, Index, Instr, Name, Operand, Ret, Term, Ty};
+use ir_tree::{Function, FunctionIndex, Index, Instr, Local, Name, Operand, Ret, Term, Ty};
 
-pub(crate) fn are_targets(scope: &Scope, term: &Term) -> bool
-    ensures { result ≡ spec.are_targets (known scope.now) term.now }
+/// Whether each label that the terminator names is a block's, and not the first's.
+#[tactic(auto, using(crate::proofs::ByPlace::passed_one, crate::proofs::ByPlace::failed_one))]
+pub(crate) fn are_targets(locals: &FunctionIndex, term: &Term) -> bool
+    ensures { result ≡ spec.are_targets (indexed locals.now) term.now }
 {
-    match term {
-        Term::Br { to } => is_target(scope.find(to.bytes())),
-        Term::CondBr { yes, no, .. } => {
-            is_target(scope.find(yes.bytes())) && is_target(scope.find(no.bytes()))
+    for position in 0..term.successor_count() {
+        if !is_named_target(locals, term.successor(position)) {
+            return false;
         }
-        _ => true,
+    }
+    true
+}
+
+fn is_named_target(locals: &FunctionIndex, label: Option<&Name>) -> bool
+    ensures { result ≡ spec.if_any (λ to. meaning.is_target (indexed locals.now to)) (option_copied label.entry) }
+{
+    match label {
+        Some(to) => is_target(locals.find(to.bytes())),
+        None => true,
     }
 }
 
 fn is_target(found: Option<Local>) -> bool
-    ensures { result ≡ spec.is_target found }
+    ensures { result ≡ meaning.is_target found }
 {
     match found {
         Some(local) => is_label(local.kind) && local.block != 0,
@@ -42,7 +52,17 @@ pub(crate) fn calls_well(names: &Index, functions: &[Function], instr: &Instr) -
             args,
             ..
         } => { may_name(*ret, dest) && is_callee(names, functions, *ret, args.as_slice(), callee) }
-        _ => true,
+        Instr::Binary { .. }
+        | Instr::Compare { .. }
+        | Instr::Convert { .. }
+        | Instr::Freeze { .. }
+        | Instr::Select { .. }
+        | Instr::Phi { .. }
+        | Instr::Alloca { .. }
+        | Instr::Load { .. }
+        | Instr::Store { .. }
+        | Instr::Gep { .. }
+        | Instr::Count { .. } => true,
     }
 }
 
@@ -67,7 +87,7 @@ fn is_callee(
     match callee {
         Operand::Local(_) => true,
         Operand::Global(name) => has_signature(ret, args, called(names, functions, name.bytes())),
-        _ => false,
+        Operand::Int(_) | Operand::Null => false,
     }
 }
 
@@ -95,7 +115,7 @@ fn same_ret(a: Ret, b: Ret) -> bool
     match (a, b) {
         (Ret::Void, Ret::Void) => true,
         (Ret::Value(a), Ret::Value(b)) => same_ty(a, b),
-        _ => false,
+        (Ret::Void, Ret::Value(_)) | (Ret::Value(_), Ret::Void) => false,
     }
 }
 
@@ -119,7 +139,7 @@ pub(crate) fn returns_well(ret: Ret, term: &Term) -> bool
 {
     match term {
         Term::Ret { value } => returned_ty(ret, value),
-        _ => true,
+        Term::Br { .. } | Term::CondBr { .. } | Term::Switch { .. } | Term::Unreachable => true,
     }
 }
 

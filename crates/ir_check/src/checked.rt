@@ -3,7 +3,7 @@ ghost use Rattle.std.specs.Prelude.{◌≡◌, map};
 ghost use Rattle.std.specs.List.{list_any};
 ghost use Rattle.ir_check.specs.Accepted.{IsAccepted};
 ghost use Rattle.ir_check.specs.ModuleKind as spec;
-ghost use Rattle.ir_check.specs.Rules.{place_in};
+ghost use Rattle.ir_tree.specs.Functions.{function_place};
 ghost use Rattle.ir_tree.specs.Names.{Indexes};
 
 use crate::place::Kind;
@@ -71,13 +71,14 @@ impl Checked {
     /// The place of a function in the module's list, None exactly where no function has the name.
     /// Takes no memory.
     pub fn function_at(&self, name: &[u8]) -> Option<usize>
-        ensures { result ≡ place_in self.now.functions name.now }
+        ensures { result ≡ function_place self.now.functions name.now }
     {
         self.names.find(name)
     }
 }
 
-fn kind_of(functions: &[Function]) -> Kind
+// Plain, unless it declares what instrumentation or lowering adds.
+pub(crate) fn kind_of(functions: &[Function]) -> Kind
     ensures { result ≡ spec.kind_of functions.now }
 {
     if declares_increments(functions) {
@@ -104,13 +105,13 @@ fn declares_notes(functions: &[Function]) -> bool
 }
 
 fn declares(functions: &[Function], name: &[u8]) -> bool
-    ensures { result ≡ list_any (spec.is_declared name.now) functions.now }
+    ensures { result ≡ list_any (spec.declares name.now) functions.now }
 {
-    functions.iter().any(|f| is_declared(f, name))
+    functions.iter().any(|f| declares_as(f, name))
 }
 
-fn is_declared(f: &Function, name: &[u8]) -> bool
-    ensures { result ≡ spec.is_declared name.now f.now }
+fn declares_as(f: &Function, name: &[u8]) -> bool
+    ensures { result ≡ spec.declares name.now f.now }
 {
-    f.blocks.as_slice().is_empty() && f.name.bytes() == name
+    f.is_declared() && f.name.bytes() == name
 }

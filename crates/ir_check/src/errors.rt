@@ -5,15 +5,20 @@ ghost use Rattle.ir_check.specs.declared.errors.CheckError.TheVariants as error;
 use crate::place::{LimitKind, Place};
 use ir_tree::Module;
 use pgo_base::NoMemory;
+use thiserror::Error;
 
 /// Why a module is refused: a quantity above its limit, with the counted quantity or
 /// 18446744073709551615 where it is greater; a rule with the first place that breaks it; a part
 /// that isn't built yet; or want of memory.
-#[derive(Clone, Copy, Debug, PartialEq, Eq)]
+#[derive(Clone, Copy, Debug, PartialEq, Eq, Drop, Error)]
 pub enum CheckError {
+    #[error("limit {which:?} {found}")]
     Limit { which: LimitKind, found: u64 },
+    #[error("rule {rule}")]
     Broken { rule: u8, place: Place },
+    #[error("not built")]
     Unbuilt,
+    #[error("out of memory")]
     NoMemory,
 }
 
@@ -26,7 +31,8 @@ impl From<NoMemory> for CheckError {
 }
 
 /// A refused module, handed back with the reason.
-#[derive(Debug, Drop)]
+#[derive(Debug, Drop, Error)]
+#[error("{why}")]
 pub struct Refused {
     pub why: CheckError,
     pub module: Module,

@@ -4,22 +4,23 @@
 mod accept;
 mod arrivals;
 mod broken;
+mod built;
 mod calls;
 mod checked;
 mod errors;
-mod form;
+mod faults;
 mod laws;
 mod limits;
-mod locals;
 mod names;
 mod operands;
 mod phis;
 mod place;
 mod rule;
-mod unmatched;
 
 pub use accept::check;
 pub use checked::Checked;
 pub use errors::{CheckError, Refused};
-pub use laws::edges_have_entries;
+pub use laws::{
+    accepted_are_small, edges_have_entries, functions_have_graphs, functions_have_numbers,
+};
 pub use place::{Kind, LimitKind, Place};

@@ -1,65 +1,93 @@
 // The operands of an instruction or terminator, tested one by one.
 ghost use Rattle.std.specs.Prelude.{◌≡◌};
 ghost use Rattle.std.specs.List.{list_all};
-ghost use Rattle.ir_check.specs.Locals.{known};
+ghost use Rattle.std.specs.Option.{option_map};
+ghost use Rattle.ir_check.specs.Meanings as meaning;
 ghost use Rattle.ir_check.specs.Rules as spec;
+ghost use Rattle.ir_tree.specs.FunctionNames.{indexed};
 ghost use Rattle.ir_tree.specs.Names.{first_place};
+ghost use Rattle.ir_tree.specs.Operands.{used};
+ghost use Rattle.ir_tree.specs.Types.{is_pointer_type};
 
-use crate::locals::{Local, LocalKind, Scope};
 use crate::names::is_label;
-use ir_tree::{Index, Instr, Name, Operand, Ret, Term, Ty};
+use crate::rule::Rule;
+use ir_tree::{FunctionIndex, Index, Instr, Local, LocalKind, Name, Operand, Ret, Term, Ty};
 
-pub(crate) fn all_exist(scope: &Scope, names: &Index, instr: &Instr) -> bool
-    ensures { result ≡ spec.all_operands (λ t v. spec.exists (known scope.now) (first_place names.now) v) instr.now }
+/// Whether each operand of an instruction keeps a rule on operands.
+#[tactic(auto, using(crate::proofs::ByPlace::passed_one, crate::proofs::ByPlace::failed_one))]
+pub(crate) fn uses_keep(
+    rule: Rule,
+    names: &Index,
+    locals: &FunctionIndex,
+    b: usize,
+    i: usize,
+    instr: &Instr,
+) -> bool
+    ensures { result ≡ spec.uses_keep rule (indexed locals.now) (first_place names.now) b i instr.now }
 {
-    match instr {
-        Instr::Binary { left, right, .. } | Instr::Compare { left, right, .. } => {
-            exists(scope, names, left) && exists(scope, names, right)
+    for place in 0..instr.operand_count() {
+        if !use_keeps(rule, names, locals, b, i, instr.operand(place)) {
+            return false;
         }
-        Instr::Phi { entries, .. } => entries_exist(scope, names, entries.as_slice()),
-        Instr::Call { callee, args, .. } => {
-            exists(scope, names, callee) && args_exist(scope, names, args.as_slice())
-        }
-        _ => true,
+    }
+    true
+}
+
+/// Whether the operand of a terminator keeps a rule on operands.
+pub(crate) fn term_keeps(
+    rule: Rule,
+    names: &Index,
+    locals: &FunctionIndex,
+    b: usize,
+    i: usize,
+    term: &Term,
+) -> bool
+    ensures { result ≡ spec.term_keeps rule (indexed locals.now) (first_place names.now) b i term.now }
+{
+    use_keeps(rule, names, locals, b, i, term.operand())
+}
+
+#[tactic(auto, unfolding(crate::specs::Rules::use_keeps))]
+fn use_keeps(
+    rule: Rule,
+    names: &Index,
+    locals: &FunctionIndex,
+    b: usize,
+    i: usize,
+    found: Option<(Ty, &Operand)>,
+) -> bool
+    ensures { result ≡ spec.if_any (spec.use_keeps rule (indexed locals.now) (first_place names.now) b i) (option_map used found.entry) }
+{
+    let Some((ty, operand)) = found else {
+        return true;
+    };
+    match rule {
+        Rule::Operands => exists(names, locals, operand),
+        Rule::Types => fits(locals, ty, operand),
+        Rule::Order => is_earlier(locals, b, i, operand),
+        Rule::Names
+        | Rule::Reserved
+        | Rule::Distinct
+        | Rule::Targets
+        | Rule::Phis
+        | Rule::Entries
+        | Rule::Calls
+        | Rule::Returns => true,
     }
 }
 
-fn args_exist(scope: &Scope, names: &Index, args: &[(Ty, Operand)]) -> bool
-    ensures { result ≡ list_all (λ arg. spec.exists (known scope.now) (first_place names.now) arg.1) args.now }
-{
-    args.iter().all(|arg| exists(scope, names, &arg.1))
-}
-
-fn entries_exist(scope: &Scope, names: &Index, entries: &[(Operand, Name)]) -> bool
-    ensures { result ≡ list_all (λ e. spec.exists (known scope.now) (first_place names.now) e.0) entries.now }
-{
-    entries.iter().all(|entry| exists(scope, names, &entry.0))
-}
-
-pub(crate) fn exist_in_term(scope: &Scope, names: &Index, term: &Term) -> bool
-    ensures { result ≡ spec.all_in_term (λ t v. spec.exists (known scope.now) (first_place names.now) v) term.now }
-{
-    match term {
-        Term::CondBr { cond, .. } => exists(scope, names, cond),
-        Term::Ret {
-            value: Some((_, value)),
-        } => exists(scope, names, value),
-        _ => true,
-    }
-}
-
-fn exists(scope: &Scope, names: &Index, operand: &Operand) -> bool
-    ensures { result ≡ spec.exists (known scope.now) (first_place names.now) operand.now }
+fn exists(names: &Index, locals: &FunctionIndex, operand: &Operand) -> bool
+    ensures { result ≡ spec.exists (indexed locals.now) (first_place names.now) operand.now }
 {
     match operand {
         Operand::Int(_) | Operand::Null => true,
-        Operand::Local(name) => is_value(scope.find(name.bytes())),
+        Operand::Local(name) => is_value(locals.find(name.bytes())),
         Operand::Global(name) => names.find(name.bytes()).is_some(),
     }
 }
 
 fn is_value(found: Option<Local>) -> bool
-    ensures { result ≡ spec.is_value found }
+    ensures { result ≡ meaning.is_value found }
 {
     match found {
         Some(local) => !is_label(local.kind),
@@ -67,83 +95,22 @@ fn is_value(found: Option<Local>) -> bool
     }
 }
 
-pub(crate) fn all_fit(scope: &Scope, instr: &Instr) -> bool
-    ensures { result ≡ spec.all_operands (spec.fits (known scope.now)) instr.now }
-{
-    match instr {
-        Instr::Binary {
-            ty,
-            left,
-            right,
-            ..
-        }
-        | Instr::Compare {
-            ty,
-            left,
-            right,
-            ..
-        } => fits(scope, *ty, left) && fits(scope, *ty, right),
-        Instr::Phi { ty, entries, .. } => entries_fit(scope, *ty, entries.as_slice()),
-        Instr::Call { callee, args, .. } => {
-            fits(scope, Ty::Ptr, callee) && args_fit(scope, args.as_slice())
-        }
-        _ => true,
-    }
-}
-
-fn args_fit(scope: &Scope, args: &[(Ty, Operand)]) -> bool
-    ensures { result ≡ list_all (λ arg. spec.fits (known scope.now) arg.0 arg.1) args.now }
-{
-    args.iter().all(|arg| fits(scope, arg.0, &arg.1))
-}
-
-fn entries_fit(scope: &Scope, ty: Ty, entries: &[(Operand, Name)]) -> bool
-    ensures { result ≡ list_all (λ e. spec.fits (known scope.now) ty e.0) entries.now }
-{
-    entries.iter().all(|entry| fits(scope, ty, &entry.0))
-}
-
-pub(crate) fn fit_in_term(scope: &Scope, term: &Term) -> bool
-    ensures { result ≡ spec.all_in_term (spec.fits (known scope.now)) term.now }
-{
-    match term {
-        Term::CondBr { cond, .. } => fits(scope, Ty::I1, cond),
-        Term::Ret {
-            value: Some((ty, value)),
-        } => fits(scope, *ty, value),
-        _ => true,
-    }
-}
-
-fn fits(scope: &Scope, ty: Ty, operand: &Operand) -> bool
-    ensures { result ≡ spec.fits (known scope.now) ty operand.now }
+fn fits(locals: &FunctionIndex, ty: Ty, operand: &Operand) -> bool
+    ensures { result ≡ spec.fits (indexed locals.now) ty operand.now }
 {
     match operand {
-        Operand::Int(value) => is_literal(ty, *value),
-        Operand::Null | Operand::Global(_) => is_ptr(ty),
-        Operand::Local(name) => has_ty(ty, scope.find(name.bytes())),
+        Operand::Int(value) => ty.has_integer(*value),
+        Operand::Null | Operand::Global(_) => is_pointer(ty),
+        Operand::Local(name) => has_ty(ty, locals.find(name.bytes())),
     }
 }
 
-fn is_ptr(ty: Ty) -> bool
-    ensures { result ≡ spec.is_ptr ty }
+fn is_pointer(ty: Ty) -> bool
+    ensures { result ≡ is_pointer_type ty }
 {
     match ty {
         Ty::Ptr => true,
-        _ => false,
-    }
-}
-
-fn is_literal(ty: Ty, value: u64) -> bool
-    ensures { result ≡ spec.is_literal ty value }
-{
-    match ty {
-        Ty::I1 => value < 2,
-        Ty::I8 => value < 256,
-        Ty::I16 => value < 65_536,
-        Ty::I32 => value < 4_294_967_296,
-        Ty::I64 => true,
-        Ty::Ptr => false,
+        Ty::I1 | Ty::I8 | Ty::I16 | Ty::I32 | Ty::I64 => false,
     }
 }
 
@@ -172,35 +139,59 @@ pub(crate) fn same_ty(a: Ty, b: Ty) -> bool
     a == b
 }
 
-pub(crate) fn are_earlier(scope: &Scope, b: usize, i: usize, instr: &Instr) -> bool
-    ensures { result ≡ spec.are_earlier (known scope.now) b i instr.now }
+fn is_earlier(locals: &FunctionIndex, b: usize, i: usize, operand: &Operand) -> bool
+    ensures { result ≡ spec.is_earlier (indexed locals.now) b i operand.now }
 {
-    match instr {
-        Instr::Binary { left, right, .. } | Instr::Compare { left, right, .. } => {
-            is_earlier(scope, b, i, left) && is_earlier(scope, b, i, right)
-        }
-        Instr::Phi { entries, .. } => entries_come(scope, entries.as_slice()),
-        Instr::Call { callee, args, .. } => {
-            is_earlier(scope, b, i, callee) && args_earlier(scope, b, i, args.as_slice())
-        }
-        _ => true,
+    match operand {
+        Operand::Local(name) => stands_earlier(b, i, locals.find(name.bytes())),
+        Operand::Int(_) | Operand::Null | Operand::Global(_) => true,
     }
 }
 
-fn entries_come(scope: &Scope, entries: &[(Operand, Name)]) -> bool
-    ensures { result ≡ list_all (spec.comes_from (known scope.now)) entries.now }
+fn stands_earlier(b: usize, i: usize, found: Option<Local>) -> bool
+    ensures { result ≡ spec.stands_earlier b i found }
+{
+    match found {
+        Some(local) => match local.kind {
+            LocalKind::Param(_) => true,
+            LocalKind::Result(_) => local.block == b && local.item < i,
+            LocalKind::Label => false,
+        },
+        None => false,
+    }
+}
+
+/// Whether the values of a phi come from the blocks of its entries, and the operands of another
+/// instruction stand before it.
+pub(crate) fn is_in_order(
+    names: &Index,
+    locals: &FunctionIndex,
+    b: usize,
+    i: usize,
+    instr: &Instr,
+) -> bool
+    ensures { result ≡ spec.is_in_order (indexed locals.now) (first_place names.now) b i instr.now }
+{
+    match instr.entries() {
+        Some(entries) => entries_come(locals, entries),
+        None => uses_keep(Rule::Order, names, locals, b, i, instr),
+    }
+}
+
+fn entries_come(locals: &FunctionIndex, entries: &[(Operand, Name)]) -> bool
+    ensures { result ≡ list_all (spec.comes_from (indexed locals.now)) entries.now }
 {
     entries
         .iter()
-        .all(|entry| comes_from(scope, &entry.0, &entry.1))
+        .all(|entry| comes_from(locals, &entry.0, &entry.1))
 }
 
-fn comes_from(scope: &Scope, value: &Operand, from: &Name) -> bool
-    ensures { result ≡ spec.comes_from (known scope.now) (value.now, from.now) }
+fn comes_from(locals: &FunctionIndex, value: &Operand, from: &Name) -> bool
+    ensures { result ≡ spec.comes_from (indexed locals.now) (value.now, from.now) }
 {
     match value {
-        Operand::Local(name) => stands_in(scope.find(from.bytes()), scope.find(name.bytes())),
-        _ => true,
+        Operand::Local(name) => stands_in(locals.find(from.bytes()), locals.find(name.bytes())),
+        Operand::Int(_) | Operand::Null | Operand::Global(_) => true,
     }
 }
 
@@ -222,46 +213,6 @@ fn is_in_block_of(from: Option<Local>, local: Local) -> bool
 {
     match from {
         Some(label) => is_label(label.kind) && local.block == label.block,
-        None => false,
-    }
-}
-
-fn args_earlier(scope: &Scope, b: usize, i: usize, args: &[(Ty, Operand)]) -> bool
-    ensures { result ≡ list_all (λ arg. spec.is_earlier (known scope.now) b i arg.1) args.now }
-{
-    args.iter().all(|arg| is_earlier(scope, b, i, &arg.1))
-}
-
-pub(crate) fn earlier_in_term(scope: &Scope, b: usize, i: usize, term: &Term) -> bool
-    ensures { result ≡ spec.all_in_term (λ t v. spec.is_earlier (known scope.now) b i v) term.now }
-{
-    match term {
-        Term::CondBr { cond, .. } => is_earlier(scope, b, i, cond),
-        Term::Ret {
-            value: Some((_, value)),
-        } => is_earlier(scope, b, i, value),
-        _ => true,
-    }
-}
-
-fn is_earlier(scope: &Scope, b: usize, i: usize, operand: &Operand) -> bool
-    ensures { result ≡ spec.is_earlier (known scope.now) b i operand.now }
-{
-    match operand {
-        Operand::Local(name) => stands_earlier(b, i, scope.find(name.bytes())),
-        _ => true,
-    }
-}
-
-fn stands_earlier(b: usize, i: usize, found: Option<Local>) -> bool
-    ensures { result ≡ spec.stands_earlier b i found }
-{
-    match found {
-        Some(local) => match local.kind {
-            LocalKind::Param(_) => true,
-            LocalKind::Result(_) => local.block == b && local.item < i,
-            LocalKind::Label => false,
-        },
         None => false,
     }
 }

@@ -1,37 +1,57 @@
 // Where phis stand, and whether a phi has an entry for each successor position that names its block.
-ghost use Rattle.std.specs.Prelude.{◌≡◌, ◌++◌, true, length, map, slice_get, IfOk, OnOk};
-ghost use Rattle.std.specs.List.{list_all, prefix_len};
+ghost use Rattle.std.specs.Prelude.{◌≡◌, ◌≤◌, ◌++◌, true, length, map, slice_get, IfOk, IfSome, OnOk};
+ghost use Rattle.std.specs.List.{list_all};
 ghost use Rattle.std.specs.Option.{option_copied, option_and_then};
-ghost use Rattle.ir_check.specs.Locals.{known};
 ghost use Rattle.ir_check.specs.Phis as spec;
 ghost use Rattle.ir_check.specs.Rules as rules;
+ghost use Rattle.ir_tree.specs.FunctionNames.{indexed};
 ghost use Rattle.ir_tree.specs.Names.{Indexes, first_place};
+ghost use Rattle.spec_lists.specs.Each.{first_of};
 
-use crate::locals::{Local, Scope};
+use crate::arrivals::arrivals_of;
 use crate::names::is_label;
-use ir_tree::{Block, Index, Instr, Name, Operand};
+use ir_tree::{Block, FunctionIndex, Index, Instr, Local, Name, Operand};
 use pgo_base::NoMemory;
 use std::alloc::Global;
 
-/// How many phis stand at the head of a block.
-pub(crate) fn leading_phis(instrs: &[Instr]) -> usize
-    ensures { result ≡ prefix_len rules.is_phi instrs.now }
+/// The first phi whose entries are not those that its block needs, by its block and its item in it.
+pub(crate) fn unmatched_in(
+    alloc: Global,
+    locals: &FunctionIndex,
+    blocks: &[Block],
+) -> Result<Option<(usize, usize)>, NoMemory>
+    ensures found { IfOk result (λ found. found ≡ first_of (spec.unmatched_in (indexed locals.now) blocks.now)) }
+    ensures within { IfOk result (λ found. IfSome found (λ at. at.0 ≤ length blocks.now)) }
 {
-    for (i, instr) in instrs.iter().enumerate() {
-        if !is_phi(instr) {
-            return i;
+    let arrivals = arrivals_of(alloc, locals, blocks)?;
+    for (b, block) in blocks.iter().enumerate() {
+        let instrs = block.instrs.as_slice();
+        match unmatched_item(alloc, locals, blocks, arrivals[b].as_slice(), b, instrs)? {
+            Some(i) => return Ok(Some((b, i))),
+            None => {}
         }
     }
-    instrs.len()
+    Ok(None)
 }
 
-fn is_phi(instr: &Instr) -> bool
-    ensures { result ≡ rules.is_phi instr.now }
+#[tactic(auto, using(spec_lists::proofs::Each::each_dropped))]
+fn unmatched_item(
+    alloc: Global,
+    locals: &FunctionIndex,
+    blocks: &[Block],
+    from: &[usize],
+    b: usize,
+    instrs: &[Instr],
+) -> Result<Option<usize>, NoMemory>
+    requires from { from.now ≡ spec.arrivals (indexed locals.now) b blocks.now }
+    ensures { IfOk result (λ found. found ≡ first_of (spec.unmatched_items (indexed locals.now) blocks.now b instrs.now)) }
 {
-    match instr {
-        Instr::Phi { .. } => true,
-        _ => false,
+    for (i, instr) in instrs.iter().enumerate() {
+        if !is_matched(alloc, locals, blocks, from, b, instr)? {
+            return Ok(Some(i));
+        }
     }
+    Ok(None)
 }
 
 /// Whether an instruction is no phi, or stands among the `lead` phis at the head of its block,
@@ -39,56 +59,54 @@ fn is_phi(instr: &Instr) -> bool
 pub(crate) fn is_placed_well(lead: usize, b: usize, i: usize, instr: &Instr) -> bool
     ensures { result ≡ rules.is_placed_well lead b i instr.now }
 {
-    !is_phi(instr) || (b != 0 && i < lead)
+    !instr.is_phi() || (b != 0 && i < lead)
 }
 
-/// Whether the entries of a phi in block b name the blocks from which it is entered, one for each
-/// successor position, and have one value for each block. `from` has the numbers of these blocks.
-pub(crate) fn is_matched(
+// Whether the entries of a phi in block b name the blocks from which it is entered, one for each
+// successor position, and have one value for each block. `from` has the numbers of these blocks.
+fn is_matched(
     alloc: Global,
-    scope: &Scope,
+    locals: &FunctionIndex,
     blocks: &[Block],
     from: &[usize],
     b: usize,
     instr: &Instr,
 ) -> Result<bool, NoMemory>
-    requires from { from.now ≡ spec.arrivals (known scope.now) b blocks.now }
-    ensures { IfOk result (λ matched. matched ≡ spec.is_matched (known scope.now) blocks.now b instr.now) }
+    requires from { from.now ≡ spec.arrivals (indexed locals.now) b blocks.now }
+    ensures { IfOk result (λ matched. matched ≡ spec.is_matched (indexed locals.now) blocks.now b instr.now) }
 {
-    match instr {
-        Instr::Phi { entries, .. } => {
-            are_matched(alloc, scope, blocks, from, b, entries.as_slice())
-        }
-        _ => Ok(true),
+    match instr.entries() {
+        Some(entries) => are_matched(alloc, locals, blocks, from, b, entries),
+        None => Ok(true),
     }
 }
 
 fn are_matched(
     alloc: Global,
-    scope: &Scope,
+    locals: &FunctionIndex,
     blocks: &[Block],
     from: &[usize],
     b: usize,
     entries: &[(Operand, Name)],
 ) -> Result<bool, NoMemory>
-    requires from { from.now ≡ spec.arrivals (known scope.now) b blocks.now }
-    ensures { IfOk result (λ matched. matched ≡ spec.are_matched (known scope.now) blocks.now b entries.now) }
+    requires from { from.now ≡ spec.arrivals (indexed locals.now) b blocks.now }
+    ensures { IfOk result (λ matched. matched ≡ spec.are_matched (indexed locals.now) blocks.now b entries.now) }
 {
-    if !name_blocks(scope, blocks.len(), entries) {
+    if !name_blocks(locals, blocks.len(), entries) {
         return Ok(false);
     }
-    if !are_as_many(alloc, scope, blocks, from, b, entries)? {
+    if !are_as_many(alloc, locals, blocks, from, b, entries)? {
         return Ok(false);
     }
     have_one_value(alloc, entries)
 }
 
-fn name_blocks(scope: &Scope, count: usize, entries: &[(Operand, Name)]) -> bool
-    ensures { result ≡ list_all (λ e. spec.is_block count (known scope.now e.1)) entries.now }
+fn name_blocks(locals: &FunctionIndex, count: usize, entries: &[(Operand, Name)]) -> bool
+    ensures { result ≡ list_all (λ e. spec.is_block count (indexed locals.now e.1)) entries.now }
 {
     entries
         .iter()
-        .all(|entry| is_block(count, scope.find(entry.1.bytes())))
+        .all(|entry| is_block(count, locals.find(entry.1.bytes())))
 }
 
 fn is_block(count: usize, found: Option<Local>) -> bool
@@ -104,17 +122,17 @@ fn is_block(count: usize, found: Option<Local>) -> bool
 // Both lists of numbers are compared in rising order.
 fn are_as_many(
     alloc: Global,
-    scope: &Scope,
+    locals: &FunctionIndex,
     blocks: &[Block],
     from: &[usize],
     b: usize,
     entries: &[(Operand, Name)],
 ) -> Result<bool, NoMemory>
-    requires from { from.now ≡ spec.arrivals (known scope.now) b blocks.now }
-    requires named { list_all (λ e. spec.is_block (length blocks.now) (known scope.now e.1)) entries.now ≡ true }
-    ensures { IfOk result (λ many. many ≡ spec.are_as_many (known scope.now) b entries.now 0 blocks.now) }
+    requires from { from.now ≡ spec.arrivals (indexed locals.now) b blocks.now }
+    requires named { list_all (λ e. spec.is_block (length blocks.now) (indexed locals.now e.1)) entries.now ≡ true }
+    ensures { IfOk result (λ many. many ≡ spec.are_as_many (indexed locals.now) b entries.now 0 blocks.now) }
 {
-    let mut numbers = numbers_of(alloc, scope, entries)?;
+    let mut numbers = numbers_of(alloc, locals, entries)?;
     numbers.sort_unstable();
     Ok(numbers.as_slice() == from)
 }
@@ -122,14 +140,14 @@ fn are_as_many(
 // The numbers of the blocks that the entries name, in the order of the entries.
 fn numbers_of(
     alloc: Global,
-    scope: &Scope,
+    locals: &FunctionIndex,
     entries: &[(Operand, Name)],
 ) -> Result<Vec<usize>, NoMemory>
-    ensures { IfOk result (λ numbers. numbers.items ≡ spec.numbers_of (known scope.now) entries.now) }
+    ensures { IfOk result (λ numbers. numbers.items ≡ spec.numbers_of (indexed locals.now) entries.now) }
 {
     let mut numbers = Vec::with_capacity(alloc, entries.len())?;
     for entry in entries {
-        add_number(&mut numbers, scope.find(entry.1.bytes()))?;
+        add_number(&mut numbers, locals.find(entry.1.bytes()))?;
     }
     Ok(numbers)
 }
@@ -196,20 +214,7 @@ fn has_value(value: &Operand, found: Option<&(Operand, Name)>) -> bool
     ensures { result ≡ spec.has_value value.now (option_copied found.entry) }
 {
     match found {
-        Some(entry) => same_operand(value, &entry.0),
+        Some(entry) => value.is_same(&entry.0),
         None => false,
-    }
-}
-
-fn same_operand(a: &Operand, b: &Operand) -> bool
-    ensures { result ≡ spec.same_operand a.now b.now }
-{
-    match (a, b) {
-        (Operand::Int(a), Operand::Int(b)) => *a == *b,
-        (Operand::Null, Operand::Null) => true,
-        (Operand::Local(a), Operand::Local(b)) | (Operand::Global(a), Operand::Global(b)) => {
-            a.bytes() == b.bytes()
-        }
-        _ => false,
     }
 }

@@ -1,10 +1,9 @@
 // Modules that are accepted or refused, with answers taken from the rules by hand.
-use ir_check::{CheckError, Kind, Place, check};
+use ir_check::{CheckError, Kind, LimitKind, Place, check};
 use ir_tree::{
-    BinOp, Block, Few, Flags, Function, Instr, Module, Name, Operand, Pred, Ret, Seq, Term, Ty,
+    BinOp, Block, Flags, Function, Instr, Module, Name, Operand, Pred, Ret, Seq, Term, Ty,
 };
 use pgo_base::NoMemory;
-use smallvec::SmallVec;
 use std::alloc::Global;
 use std::test::Fail;
 
@@ -27,10 +26,10 @@ fn compare(alloc: Global) -> Result<Instr, NoMemory> {
     })
 }
 
-// %a = add i64 %n, 1
-fn add(alloc: Global) -> Result<Instr, NoMemory> {
+// %DEST = add i64 %n, 1
+fn add(alloc: Global, dest: &[u8]) -> Result<Instr, NoMemory> {
     Ok(Instr::Binary {
-        dest: name(alloc, b"a".as_slice())?,
+        dest: name(alloc, dest)?,
         op: BinOp::Add,
         flags: Flags {
             nuw: false,
@@ -45,13 +44,13 @@ fn add(alloc: Global) -> Result<Instr, NoMemory> {
 
 // call void @print_i64(i64 %a)
 fn print(alloc: Global) -> Result<Instr, NoMemory> {
-    let mut args = SmallVec::new(alloc);
+    let mut args = Vec::new(alloc);
     args.push((Ty::I64, local(alloc, b"a".as_slice())?))?;
     Ok(Instr::Call {
         dest: None,
         ret: Ret::Void,
         callee: Operand::Global(name(alloc, b"print_i64".as_slice())?),
-        args: Few::of(args),
+        args: Seq::of(args),
         prof: None,
     })
 }
@@ -79,7 +78,7 @@ fn entry(alloc: Global) -> Result<Block, NoMemory> {
 
 fn low(alloc: Global) -> Result<Block, NoMemory> {
     let mut instrs = Vec::new(alloc);
-    instrs.push(add(alloc)?)?;
+    instrs.push(add(alloc, b"a".as_slice())?)?;
     instrs.push(print(alloc)?)?;
     Ok(Block {
         label: name(alloc, b"low".as_slice())?,
@@ -183,5 +182,81 @@ fn the_first_broken_rule_is_named(rt: HostRuntime) -> Result<(), Fail> {
     assert!(rt; other_type == broken(12, 1, 2, 0));
     let other_block = refusal(alloc, [b"a".as_slice()].as_slice())?;
     assert!(rt; other_block == Some(CheckError::Unbuilt));
+    Ok(())
+}
+
+// One block of so many additions, which returns the last sum.
+fn additions(alloc: Global, count: u64) -> Result<Module, Fail> {
+    let mut instrs = Vec::new(alloc);
+    for number in 0..count {
+        let dest = format!(in alloc; "r{number}")?;
+        instrs.push(add(alloc, dest.as_bytes())?)?;
+    }
+    let mut params = Vec::new(alloc);
+    params.push((Ty::I64, name(alloc, b"n".as_slice())?))?;
+    let mut blocks = Vec::new(alloc);
+    blocks.push(Block {
+        label: name(alloc, b"entry".as_slice())?,
+        instrs: Seq::of(instrs),
+        term: ret(alloc, b"n".as_slice())?,
+    })?;
+    let mut functions = Vec::new(alloc);
+    functions.push(Function {
+        name: name(alloc, b"f".as_slice())?,
+        ret: Ret::Value(Ty::I64),
+        params: Seq::of(params),
+        blocks: Seq::of(blocks),
+        prof: None,
+    })?;
+    Ok(Module {
+        globals: Seq::of(Vec::new(alloc)),
+        functions: Seq::of(functions),
+    })
+}
+
+// With the parameter these are 2,048 registers, and one more.
+#[test]
+fn a_function_has_at_most_2048_registers(rt: HostRuntime) -> Result<(), Fail> {
+    let alloc = rt.alloc();
+    assert!(rt; check(alloc, additions(alloc, 2047)?).is_ok());
+    match check(alloc, additions(alloc, 2048)?) {
+        Ok(_) => assert!(rt; false, "accepted"),
+        Err(refused) => {
+            let limit = CheckError::Limit {
+                which: LimitKind::Registers,
+                found: 2049,
+            };
+            assert!(rt; refused.why == limit);
+        }
+    }
+    Ok(())
+}
+
+// The branching module, whose function `g` has another name.
+fn with_name(alloc: Global, other: &[u8]) -> Result<Option<CheckError>, Fail> {
+    let mut function = branching(alloc, b"n".as_slice())?;
+    function.name = name(alloc, other)?;
+    let mut functions = Vec::new(alloc);
+    functions.push(print_i64(alloc)?)?;
+    functions.push(function)?;
+    let module = Module {
+        globals: Seq::of(Vec::new(alloc)),
+        functions: Seq::of(functions),
+    };
+    match check(alloc, module) {
+        Ok(_) => Ok(None),
+        Err(refused) => Ok(Some(refused.why)),
+    }
+}
+
+#[test]
+fn names_of_the_profile_runtime_are_reserved(rt: HostRuntime) -> Result<(), Fail> {
+    let alloc = rt.alloc();
+    assert!(rt; with_name(alloc, b"__profc_f".as_slice())? == broken(3, 1, 0, 0));
+    assert!(rt; with_name(alloc, b"__prof".as_slice())? == broken(3, 1, 0, 0));
+    assert!(rt; with_name(alloc, b"__llvm_profile_f".as_slice())? == broken(3, 1, 0, 0));
+    assert!(rt; with_name(alloc, b"llvm.instrprof.f".as_slice())? == broken(3, 1, 0, 0));
+    assert!(rt; with_name(alloc, b"__pro".as_slice())?.is_none());
+    assert!(rt; with_name(alloc, b"f__prof".as_slice())?.is_none());
     Ok(())
 }

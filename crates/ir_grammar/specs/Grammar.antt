@@ -3,12 +3,14 @@
 --
 -- Spelled today: the declaration of `print_i64`, definitions over `i64` whose blocks all have labels, `add` without
 -- flags, `icmp`, `phi`, the call of `print_i64`, both forms of `br`, and `ret`.
-use Rattle.std.specs.Prelude.{◌≡◌, ℕ, ◌-◌, ◌^◌, ◌%◌, Bool, true, false, cond, not, ◌||◌, List, [], ◌∷◌, Option, Some, None, nat_lt, nat_le, codes}
-use Rattle.std.specs.Option.{option_map, option_and_then}
+use Rattle.std.specs.Prelude.{Bool, true, false, cond, not, ◌||◌, ℕ, List, [], ◌∷◌, Option, Some, None, codes}
+use Rattle.std.specs.Option.{option_map}
 use Rattle.ir_lex.specs.Tokens.{Token, Word, Number, Global, Local}
+use Rattle.ir_tree.specs.Names.{same}
+use Rattle.ir_tree.specs.Types.{when, literal_of}
+use Rattle.ir_tree.specs.Functions.{print_name}
 use Rattle.ir_tree.specs.declared.types.Ty.{Ty}
 use Rattle.ir_tree.specs.declared.types.Ty.TheVariants.{I1, I64}
-use Rattle.ir_tree.specs.declared.types.Ty.TheVariants as types
 use Rattle.ir_tree.specs.declared.types.Ret.{Ret}
 use Rattle.ir_tree.specs.declared.types.Ret.TheVariants.{Void, Value}
 use Rattle.ir_tree.specs.declared.types.Operand.{Operand}
@@ -25,9 +27,8 @@ use Rattle.ir_tree.specs.declared.types.Term.TheVariants as terms
 use Rattle.ir_tree.specs.declared.types.Block.{Block}
 use Rattle.ir_tree.specs.declared.types.Function.{Function}
 use Rattle.ir_tree.specs.declared.types.Module.{Module}
-use Rattle.std.proofs.Common.{refl, ◌∙◌}
-use Rattle.ir_grammar.specs.Rules.{Rule, AreMany, pure, one, either, many, many_after, TakesToken, then_takes, either_takes, ◌>>=◌, ◌>>◌}
-use Rattle.ir_grammar.specs.Words.{Tokens, same, when, is_word, is_sign, is_label, is_local, first_is, any_left, word, sign, local, label, word_takes, sign_takes, local_takes, label_takes}
+use Rattle.ir_grammar.specs.Rules.{Rule, pure, one, either, many, many_after, TakesToken, then_takes, either_takes, ◌>>=◌, ◌>>◌}
+use Rattle.ir_grammar.specs.Words.{Tokens, is_word, is_sign, is_label, is_local, first_is, any_left, word, sign, local, label, word_takes, sign_takes, local_takes, label_takes}
 
 -- # Types
 
@@ -55,23 +56,6 @@ return_type = one return_meaning
 
 -- # Operands
 
--- the bits of an integer type
-abbrev pub width_of : Ty → Option ℕ
-width_of I1 = Some 1
-width_of types.I8 = Some 8
-width_of types.I16 = Some 16
-width_of types.I32 = Some 32
-width_of I64 = Some 64
-width_of types.Ptr = None
-
--- a number from -2^(w-1) to 2^w - 1, kept modulo 2^w; the sign comes first, and then the magnitude
-abbrev pub literal_of_width : Bool → ℕ → ℕ → Option ℕ
-literal_of_width true magnitude w = when (nat_le magnitude (2 ^ (w - 1))) ((2 ^ w - magnitude) % 2 ^ w)
-literal_of_width false magnitude w = when (nat_lt magnitude (2 ^ w)) magnitude
-
-abbrev pub literal_of : Ty → Bool → ℕ → Option ℕ
-literal_of ty minus magnitude = option_and_then (literal_of_width minus magnitude) (width_of ty)
-
 -- V: a local or a literal of the type
 abbrev pub operand_meaning : Ty → Token → Option Operand
 operand_meaning ty (Local name) = Some (operands.Local name)
@@ -83,10 +67,7 @@ operand ty = one (operand_meaning ty)
 
 -- # Instructions
 
--- the function that may be declared and called without a definition of its own
-abbrev pub print_name : List ℕ
-print_name = codes "print_i64"
-
+-- the function that may be declared, and called without a definition of its own
 abbrev pub known_callee : Token → Option (List ℕ)
 known_callee (Global name) = when (same name print_name) name
 known_callee _ = None
@@ -368,16 +349,3 @@ unfoldable pub «module» : Rule Token Module
 -- the tokens, all of them, spell the module
 abbrev pub Spells : Tokens → Module → Type 0
 Spells ts m = («module»).Spells ts m []
-
--- The functions of a module go up to the last token, so what is left behind a module is nothing.
-pub none_left : (ts : Tokens) → any_left ts ≡ false → ts ≡ []
-none_left [] e = refl
-none_left (t ∷ ts) e = absurd (cc)
-
-pub functions_end : (ts : Tokens) (list : List Function) (rest : Tokens) → AreMany any_left function ts list rest → rest ≡ []
-functions_end ts [] rest (e, f) = f ∙ none_left ts e
-functions_end ts (x ∷ xs) rest (e, middle, first, others) = functions_end middle xs rest others
-
-pub module_ends : (ts : Tokens) (m : Module) (rest : Tokens) → («module»).Spells ts m rest → rest ≡ []
-unfolding «module» functions
-module_ends ts m rest (list, middle, h, end) = end.1 ∙ functions_end ts list middle h

@@ -1,6 +1,7 @@
 -- What holds of the grammar as a whole.
 use Rattle.std.specs.Prelude.{◌≡◌, ◌↔◌, ◌++◌, true, false, [], ◌∷◌, Some, None, codes}
 use Rattle.ir_lex.specs.Tokens.{Word, Number, Global, Local, Label, Sign}
+use Rattle.ir_tree.specs.Types.{literal_of}
 use Rattle.ir_tree.specs.declared.types.Ty.TheVariants.{I64}
 use Rattle.ir_tree.specs.declared.types.Ret.TheVariants.{Void, Value}
 use Rattle.ir_tree.specs.declared.types.Operand.TheVariants as operands
@@ -12,7 +13,7 @@ use Rattle.ir_tree.specs.declared.types.Block.{Block}
 use Rattle.ir_tree.specs.declared.types.Function.{Function}
 use Rattle.ir_tree.specs.declared.types.Module.{Module}
 use Rattle.ir_grammar.specs.Words.{Tokens}
-use Rattle.ir_grammar.specs.Grammar.{Spells, «module», no_flags, literal_of}
+use Rattle.ir_grammar.specs.Grammar.{Spells, «module», no_flags}
 
 -- A list of tokens spells one module at most.
 abbrev pub OneModule : Type 0
@@ -21,6 +22,10 @@ OneModule = (ts : Tokens) (m n : Module) → Spells ts m → Spells ts n → m �
 -- What is read up to the last token is spelled, and where nothing is, nothing is spelled.
 abbrev pub ReadIsSpelled : Type 0
 ReadIsSpelled = (ts : Tokens) (m : Module) → ((«module»).read ts ≡ Some (m, [])) ↔ Spells ts m
+
+-- The functions of a module go up to the last token, so nothing is left behind a module.
+abbrev pub ModuleEnds : Type 0
+ModuleEnds = (ts : Tokens) (m : Module) (rest : Tokens) → («module»).Spells ts m rest → rest ≡ []
 
 -- # A worked example
 --

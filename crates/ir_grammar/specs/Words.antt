@@ -1,18 +1,12 @@
 -- Rules for one token of a module's text, and tests of the first token.
-use Rattle.std.specs.Prelude.{ℕ, Bool, true, false, cond, List, [], ◌∷◌, Option, Some, None, nat_eq}
-use Rattle.std.specs.Cmp.Lexicographic.{pointwise}
+use Rattle.std.specs.Prelude.{ℕ, Bool, true, false, List, [], ◌∷◌, Option, Some, None, nat_eq}
 use Rattle.ir_lex.specs.Tokens.{Token, Word, Global, Local, Label, Sign}
+pub use Rattle.ir_tree.specs.Names.{same}
+pub use Rattle.ir_tree.specs.Types.{when}
 use Rattle.ir_grammar.specs.Rules.{Rule, one, TakesToken, one_takes}
 
 abbrev pub Tokens : Type 0
 Tokens = List Token
-
--- equal texts
-abbrev pub same : List ℕ → List ℕ → Bool
-same = pointwise nat_eq
-
-abbrev pub when : {A : Type 0} → Bool → A → Option A
-when test x = cond test (Some x) None
 
 -- # Words and signs
 

@@ -2,11 +2,7 @@
 //! stand in `specs/`. The functions without a body carry the laws of the grammar in their contracts.
 #![tactic(auto)]
 
-ghost use Rattle.ir_grammar.specs.Laws.{OneModule, ReadIsSpelled, ExampleIsSpelled, LiteralEnds};
-
-mod literals;
-
-pub use literals::literal;
+ghost use Rattle.ir_grammar.specs.Laws.{OneModule, ReadIsSpelled, ModuleEnds, ExampleIsSpelled, LiteralEnds};
 
 /// Any tokens spell one module at most.
 pub fn one_module()
@@ -17,6 +13,11 @@ pub fn one_module()
 /// nothing.
 pub fn read_is_spelled()
     ensures { ReadIsSpelled }
+{}
+
+/// Nothing is left behind a module.
+pub fn module_ends()
+    ensures { ModuleEnds }
 {}
 
 /// A worked example: the tokens of a module of two functions, one of them with three blocks.

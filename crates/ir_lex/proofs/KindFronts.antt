@@ -1,6 +1,7 @@
 use Rattle.std.proofs.Common.{ℕ, Bool, eqb, List, Option, Some}
 use Rattle.std.specs.Char.{is_ascii_digit}
-use Rattle.ir_lex.specs.Classes.{is_word_first, is_name_first, is_name_byte, is_quotable, is_string_byte, is_sign}
+use Rattle.ir_tree.specs.Spelling.{is_word_first, is_name_first, is_name_byte, is_quotable}
+use Rattle.ir_lex.specs.Classes.{is_string_byte, is_sign}
 use Rattle.ir_lex.specs.declared.token.TokenKind.{TokenKind}
 use Rattle.ir_lex.specs.declared.token.TokenKind.TheVariants.{Word, Number, Global, Local, Label, Str, Bytes, Group, Mark, Sign}
 use Rattle.ir_lex.specs.Spelling.{ends, one, byte, many, either, is_digits, is_plain_name, is_quoted_name, is_quoted_symbol, is_plain_label, is_digit_label, is_quoted_label, is_byte_content, spells}

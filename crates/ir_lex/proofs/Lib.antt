@@ -4,3 +4,4 @@ pub mod NextSteps
 pub mod Once
 pub mod Ranks
 pub mod Unlabelled
+pub mod Cuts

@@ -2,7 +2,7 @@ use Rattle.std.proofs.Common.{◌≡◌, ℕ, zero, suc, ◌+◌, ◌<◌, ◌�
 use Rattle.std.specs.List.{prefix_len}
 use Rattle.std.specs.Option.{option_and_then}
 use Rattle.std.proofs.Math.Numerals.{one-add}
-use Rattle.ir_lex.specs.Classes.{is_name_first, is_name_byte}
+use Rattle.ir_tree.specs.Spelling.{is_name_first, is_name_byte}
 use Rattle.ir_lex.specs.Scan.{first_of, skip, many_rest, byte_rest, plain_label_rest}
 
 -- from each place in a run of bytes of a class, the run ends at the same place

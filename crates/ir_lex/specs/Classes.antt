@@ -1,23 +1,6 @@
-use Rattle.std.specs.Prelude.{ℕ, Bool, not, ◌&&◌, ◌||◌, ◌==◌}
-use Rattle.std.specs.Char.{is_ascii_alphabetic, is_ascii_digit, is_ascii_graphic}
+use Rattle.std.specs.Prelude.{ℕ, Bool, not, ◌||◌, ◌==◌}
 
--- The classes of bytes that tokens are made of, each byte by its ASCII code.
-
--- a letter, `$`, `.` or `_`
-unfoldable pub is_word_first : ℕ → Bool
-is_word_first b = is_ascii_alphabetic b || (b == 36 || (b == 46 || b == 95))
-
--- one of these, or `-`
-unfoldable pub is_name_first : ℕ → Bool
-is_name_first b = is_word_first b || b == 45
-
--- one of these, or a digit
-unfoldable pub is_name_byte : ℕ → Bool
-is_name_byte b = is_name_first b || is_ascii_digit b
-
--- a printable byte that a name in quotes may have: not `"`, `#`, `:` or `\`
-unfoldable pub is_quotable : ℕ → Bool
-is_quotable b = is_ascii_graphic b && not (b == 34 || (b == 35 || (b == 58 || b == 92)))
+-- The classes of bytes that tokens are made of, each byte by its ASCII code. Those of names are ir_tree's.
 
 -- a byte between the quotes of a string: not `"` or a line feed
 unfoldable pub is_string_byte : ℕ → Bool

@@ -5,3 +5,5 @@ pub mod Scan
 pub mod Best
 pub mod Next
 pub mod Meaning
+pub mod Cut
+pub mod Laws

@@ -2,12 +2,13 @@ use Rattle.std.specs.Prelude.{ℕ, zero, suc, ◌-◌, Bool, ◌==◌, cond, nat
 use Rattle.std.specs.List.{prefix_len}
 use Rattle.std.specs.Option.{option_and_then}
 use Rattle.std.specs.Char.{is_ascii_digit, is_ascii_hexdigit}
-use Rattle.ir_lex.specs.Classes.{is_word_first, is_name_first, is_name_byte, is_quotable, is_string_byte, is_sign}
+use Rattle.ir_tree.specs.Spelling.{is_word_first, is_name_first, is_name_byte, is_quotable}
+use Rattle.ir_lex.specs.Classes.{is_string_byte, is_sign}
 use Rattle.ir_lex.specs.declared.token.TokenKind.{TokenKind}
 use Rattle.ir_lex.specs.declared.token.TokenKind.TheVariants.{Word, Number, Global, Local, Label, Str, Bytes, Group, Mark, Sign}
 
 -- What is left of a text behind the longest front that passes a spelling, read from the left: a function for each word
--- of `Spelling`. Only proofs look at it.
+-- of `Spelling`.
 
 abbrev pub first_of : (ℕ → Bool) → List ℕ → Option (List ℕ)
 first_of class [] = None

@@ -5,13 +5,13 @@
 #![tactic(auto)]
 
 mod bytes;
-mod law;
+mod laws;
 mod longest;
 mod scan;
 mod token;
 mod tokens;
 
-pub use law::tokens_are_unique;
+pub use laws::{cut_is_spelled, tokens_are_cut, tokens_are_unique};
 pub use token::{Syntax, Token, TokenKind};
 pub use tokens::Tokens;
 

@@ -4,17 +4,17 @@ ghost use Rattle.std.specs.Prelude.{◌≡◌, ℕ, ◌<◌, ◌≤◌, ◌==◌
 ghost use Rattle.std.specs.List.{prefix_len};
 ghost use Rattle.std.specs.Option.{option_map};
 ghost use Rattle.std.specs.Char.{is_ascii_digit};
+ghost use Rattle.ir_tree.specs.Spelling as name;
 ghost use Rattle.ir_lex.specs.Classes as class;
 ghost use Rattle.ir_lex.specs.Scan as scan;
 
-use crate::bytes::{
-    is_name_byte, is_name_first, is_quotable, is_sign, is_string_byte, is_word_first,
-};
+use crate::bytes::{is_sign, is_string_byte};
+use ir_tree::{is_name_byte, is_name_first, is_quotable, is_word_first};
 
 // ---- runs of bytes
 
 fn name_len(text: &[u8]) -> usize
-    ensures count { result ≡ prefix_len class.is_name_byte text.now }
+    ensures count { result ≡ prefix_len name.is_name_byte text.now }
     ensures within { result ≤ length text.now }
 {
     text.iter().take_while(|b| is_name_byte(**b)).count()
@@ -28,7 +28,7 @@ fn digits_len(text: &[u8]) -> usize
 }
 
 fn quotable_len(text: &[u8]) -> usize
-    ensures count { result ≡ prefix_len class.is_quotable text.now }
+    ensures count { result ≡ prefix_len name.is_quotable text.now }
     ensures within { result ≤ length text.now }
 {
     text.iter().take_while(|b| is_quotable(**b)).count()
@@ -50,7 +50,7 @@ pub(crate) fn behind(text: &[u8], n: usize) -> &[u8]
 }
 
 fn skip_name(text: &[u8]) -> &[u8]
-    ensures { result.now ≡ scan.skip class.is_name_byte text.now }
+    ensures { result.now ≡ scan.skip name.is_name_byte text.now }
 {
     behind(text, name_len(text))
 }
@@ -62,7 +62,7 @@ fn skip_digits(text: &[u8]) -> &[u8]
 }
 
 fn skip_quotable(text: &[u8]) -> &[u8]
-    ensures { result.now ≡ scan.skip class.is_quotable text.now }
+    ensures { result.now ≡ scan.skip name.is_quotable text.now }
 {
     behind(text, quotable_len(text))
 }
@@ -94,7 +94,7 @@ fn after_digit(text: &[u8]) -> Option<&[u8]>
 }
 
 fn after_name_first(text: &[u8]) -> Option<&[u8]>
-    ensures { option_map (λ rest. rest.now) result ≡ scan.first_of class.is_name_first text.now }
+    ensures { option_map (λ rest. rest.now) result ≡ scan.first_of name.is_name_first text.now }
 {
     match text {
         [first, rest @ ..] if is_name_first(*first) => Some(rest),
@@ -103,7 +103,7 @@ fn after_name_first(text: &[u8]) -> Option<&[u8]>
 }
 
 fn after_quotable(text: &[u8]) -> Option<&[u8]>
-    ensures { option_map (λ rest. rest.now) result ≡ scan.first_of class.is_quotable text.now }
+    ensures { option_map (λ rest. rest.now) result ≡ scan.first_of name.is_quotable text.now }
 {
     match text {
         [first, rest @ ..] if is_quotable(*first) => Some(rest),
@@ -112,7 +112,7 @@ fn after_quotable(text: &[u8]) -> Option<&[u8]>
 }
 
 fn after_word_first(text: &[u8]) -> Option<&[u8]>
-    ensures { option_map (λ rest. rest.now) result ≡ scan.first_of class.is_word_first text.now }
+    ensures { option_map (λ rest. rest.now) result ≡ scan.first_of name.is_word_first text.now }
 {
     match text {
         [first, rest @ ..] if is_word_first(*first) => Some(rest),

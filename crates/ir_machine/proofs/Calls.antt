@@ -5,6 +5,9 @@ use Rattle.std.specs.Option.{option_map}
 use Rattle.std.specs.List.{flat_map}
 use Rattle.std.proofs.lemmas.List.{take_all, length-map}
 use Rattle.std.proofs.lemmas.Option.{slice_get-map, slice_get_read, slice_get_within}
+use Rattle.ir_tree.specs.Blocks.{labels}
+use Rattle.ir_tree.specs.Functions.{function_at, numbered}
+use Rattle.ir_tree.specs.Operands.{result_names}
 use Rattle.ir_tree.specs.declared.types.Ty.{Ty}
 use Rattle.ir_tree.specs.declared.types.Block.{Block}
 use Rattle.ir_tree.specs.declared.types.Function.{Function}
@@ -14,22 +17,31 @@ use Rattle.ir_model.specs.declared.result.Call.{Call}
 use Rattle.ir_model.specs.declared.result.CallResult.{CallResult}
 use Rattle.ir_model.specs.declared.result.End.{End}
 use Rattle.ir_model.specs.declared.result.End.TheVariants as end
-use Rattle.ir_model.specs.Machine.{Ran, Open, Ended, shown_first, shown_of, go_on, run, seen}
+use Rattle.spec_machines.specs.Machine.{Ran, Open, Ended, shown_first, shown_of, go_on, run, seen}
 use Rattle.ir_model.specs.State.{Frame, State, Shown, Printed, Entered, Walked, arguments, printed, Stop, Returns, Traps}
-use Rattle.ir_model.specs.Step.{function_at, step}
+use Rattle.ir_model.specs.Step.{step, declares_print}
 use Rattle.ir_model.specs.Run.{run_of, result_of, entered, begun, marks, marks_of, FitsAll, FitsFunction, IsValidCall}
 use Rattle.ir_machine.specs.declared.code.BlockCode.{BlockCode}
 use Rattle.ir_machine.specs.declared.code.FunctionCode.{FunctionCode}
-use Rattle.ir_machine.specs.Names.{place_of}
-use Rattle.ir_machine.specs.Resolved.{results, register_names, labels, declares_print, joins_of, block_code, function_code, module_code}
-use Rattle.ir_machine.specs.declared.joins.Join.{Join}
+use Rattle.ir_machine.specs.Names.{number_of, number_in, AreNumbered}
+use Rattle.ir_machine.specs.declared.names.Numbers.{Numbers}
+use Rattle.ir_machine.specs.Resolved.{register_names, block_phis, block_code, numbered_code, function_code, module_code}
+use Rattle.ir_tree.specs.declared.types.Instr.{Instr}
 use Rattle.ir_machine.specs.Steps.{bytes, ways, first_stage, code_step, result_from}
-use Rattle.ir_machine.proofs.Places.{same_self}
+use Rattle.ir_machine.proofs.Places.{place_of, same_self, placed, numbers_are}
 use Rattle.ir_machine.proofs.Registers.{blank, holds_begun}
 use Rattle.ir_machine.proofs.InStep.{view, Own, Stands, same_runs, own_run}
 
 abbrev pub function_of : ℕ → List BlockCode → FunctionCode
 function_of registers blocks = record { registers = registers; blocks = blocks }
+
+-- the code of a function, with numbers by place
+abbrev pub placed_code : Bool → Function → FunctionCode
+placed_code prints f = numbered_code prints (place_of (register_names f)) (place_of (labels f.blocks)) f
+
+pub code_placed : (prints : Bool) (f : Function) → placed_code prints f ≡ function_code prints f
+code_placed prints f =
+    λ i. numbered_code prints (sym (placed (register_names f)) i) (sym (placed (labels f.blocks)) i) f
 
 fits_length : (ps : List (Ty × List ℕ)) (vs : List ℕ) → FitsAll ps vs → length vs ≡ length ps
 fits_length [] [] h = refl
@@ -60,10 +72,10 @@ entered_first k (Ended p (Traps kind)) = refl
 
 module _ (m : Module) (k n : ℕ) (vs : List ℕ) (f : Function) (at : function_at m k ≡ Some f) (fits : FitsAll f.params vs) where
   abbrev code : FunctionCode
-  code = function_code (declares_print m) f
+  code = placed_code (declares_print m) f
 
   abbrev more : List (List ℕ)
-  more = flat_map (λ (b : Block). results b.instrs) f.blocks
+  more = flat_map (λ (b : Block). result_names b.instrs) f.blocks
 
   abbrev start_frame : Block → Frame
   start_frame b = record { function = k; block = b.label; place = 0; registers = arguments f.params vs; into = None }
@@ -135,7 +147,7 @@ module _ (m : Module) (k n : ℕ) (vs : List ℕ) (f : Function) (at : function_
 of_found : (m : Module) (k n : ℕ) (vs : List ℕ) (o : Option Function) → function_at m k ≡ o → FitsFunction o vs → (code : FunctionCode) → option_map (function_code (declares_print m)) o ≡ Some code → result_from [] (run (code_step code.blocks) n (first_stage code vs)) ≡ result_of (go_on (begun k vs (function_at m k)) (run (step m) n))
 of_found m k n vs None at fits code e = absurd fits
 of_found m k n vs (Some f) at fits code e =
-    let is_code : function_code (declares_print m) f ≡ code = cc in
+    let is_code : placed_code (declares_print m) f ≡ code = code_placed (declares_print m) f ∙ (let q : function_code (declares_print m) f ≡ code = cc in q) in
     let P : FunctionCode → Type 0 = λ c. result_from [] (run (code_step c.blocks) n (first_stage c vs)) ≡ result_of (go_on (begun k vs (function_at m k)) (run (step m) n)) in
     subst P is_code (of_function m k n vs f at fits.1 fits.0)
 
@@ -143,18 +155,18 @@ of_found m k n vs (Some f) at fits code e =
 pub call_is : (m : Module) (c : Call) (n : ℕ) (codes : List FunctionCode) (code : FunctionCode) (r : CallResult) → IsValidCall m c → codes ≡ module_code m → slice_get codes c.function ≡ Some code → r ≡ result_from [] (run (code_step code.blocks) n (first_stage code c.args)) → r ≡ result_of (run_of m c n)
 call_is m c n codes code r valid are found e =
     let there : option_map (function_code (declares_print m)) (function_at m c.function) ≡ Some code =
-    sym (slice_get-map (function_code (declares_print m)) m.functions c.function) ∙ ap (λ cs. slice_get cs c.function) (sym are) ∙ found in
+    sym (slice_get-map (function_code (declares_print m)) (numbered m.functions) c.function) ∙ ap (λ cs. slice_get cs c.function) (sym are) ∙ found in
     e ∙ of_found m c.function n c.args (function_at m c.function) refl valid code there
 
-within : (m : Module) (k : ℕ) (vs : List ℕ) (o : Option Function) → slice_get m.functions k ≡ o → FitsFunction o vs → k < length m.functions
+within : (m : Module) (k : ℕ) (vs : List ℕ) (o : Option Function) → slice_get (numbered m.functions) k ≡ o → FitsFunction o vs → k < length (numbered m.functions)
 within m k vs None e fits = absurd fits
-within m k vs (Some f) e fits = slice_get_within m.functions k f e
+within m k vs (Some f) e fits = slice_get_within (numbered m.functions) k f e
 
 -- the function of a valid call has code
 pub call_within : (m : Module) (c : Call) (codes : List FunctionCode) → IsValidCall m c → codes ≡ module_code m → c.function < length codes
 call_within m c codes valid are =
     let k = within m c.function c.args (function_at m c.function) refl valid in
-    let e = ap length are ∙ length-map m.functions (function_code (declares_print m)) in
+    let e = ap length are ∙ length-map (numbered m.functions) (function_code (declares_print m)) in
     omega arith
 
 no_marks_in : (xs : List Shown) → marks xs ≡ []
@@ -180,15 +192,14 @@ told_on_err after none p r (Ok x) = tt
 told_on_err after none p r (Err e) = ([], marks_of r, refl, none p)
 
 -- the code of a function, made of its parts
-pub function_made : (prints : Bool) (f : Function) (names shown registers ls label_list : List (List ℕ)) (joins lent : List (List Join)) (bs : List Block) (codes out : List BlockCode) → names ≡ register_names f → shown ≡ names → registers ≡ names → bs ≡ f.blocks → label_list ≡ labels bs → ls ≡ label_list → joins ≡ joins_of registers bs → lent ≡ joins → codes ≡ map (block_code prints registers ls lent) bs → out ≡ codes → function_of (length shown) out ≡ function_code prints f
-function_made prints f names shown registers ls label_list joins lent bs codes out names_are shown_are registers_are blocks_are label_list_is labels_are joins_are lent_are codes_are out_is =
-    let label_names : ls ≡ labels f.blocks = labels_are ∙ label_list_is ∙ ap labels blocks_are in
-    let register_list : registers ≡ register_names f = registers_are ∙ names_are in
-    let join_list : lent ≡ joins_of (register_names f) f.blocks =
-    lent_are ∙ joins_are ∙ (λ i. joins_of (register_list i) (blocks_are i)) in
-    let made : out ≡ map (block_code prints (register_names f) (labels f.blocks) (joins_of (register_names f) f.blocks)) f.blocks =
-    out_is ∙ codes_are ∙ (λ i. map (block_code prints (register_list i) (label_names i) (join_list i)) (blocks_are i)) in
-    λ i. function_of (length ((shown_are ∙ names_are) i)) (made i)
+pub function_made : (prints : Bool) (f : Function) (registers ls : Numbers) (count : ℕ) (phis lent : List (List Instr)) (bs : List Block) (codes out : List BlockCode) → AreNumbered registers (register_names f) → bs ≡ f.blocks → AreNumbered ls (labels bs) → phis ≡ block_phis bs → lent ≡ phis → codes ≡ map (block_code prints (number_in registers) (number_in ls) lent) bs → count ≡ registers.count → out ≡ codes → function_of count out ≡ function_code prints f
+function_made prints f registers ls count phis lent bs codes out register_numbers blocks_are label_numbers phis_are lent_are codes_are count_is out_is =
+    let register_is : ◌≡◌ {A = List ℕ → ℕ} (number_in registers) (number_of (register_names f)) = numbers_are registers (register_names f) register_numbers in
+    let label_is : ◌≡◌ {A = List ℕ → ℕ} (number_in ls) (number_of (labels f.blocks)) = numbers_are ls (labels bs) label_numbers ∙ ap (λ (xs : List Block). number_of (labels xs)) blocks_are in
+    let phi_list : lent ≡ block_phis f.blocks = lent_are ∙ phis_are ∙ ap block_phis blocks_are in
+    let made : out ≡ map (block_code prints (number_of (register_names f)) (number_of (labels f.blocks)) (block_phis f.blocks)) f.blocks =
+    out_is ∙ codes_are ∙ (λ i. map (block_code prints (register_is i) (label_is i) (phi_list i)) (blocks_are i)) in
+    λ i. function_of ((count_is ∙ register_numbers.count) i) (made i)
 
 -- what the code of a valid call's function comes to is the call's result
 pub valid_result : {E : Type 0} (m : Module) (c : Call) (n : ℕ) (codes : List FunctionCode) (code : FunctionCode) (args : List ℕ) (answer : Result CallResult E) → IsValidCall m c → codes ≡ module_code m → code ≡ get_or codes c.function code → args ≡ c.args → IfOk answer (λ r. r ≡ result_from [] (run (code_step code.blocks) n (first_stage code args))) → IfOk answer (λ r. r ≡ result_of (run_of m c n))

@@ -5,7 +5,7 @@ use Rattle.ir_value.specs.Operators.{binary_of, compare_of}
 use Rattle.ir_value.specs.declared.operators.DivTrap.{DivTrap}
 use Rattle.ir_value.specs.declared.operators.DivTrap.TheVariants.{DivZero, DivOverflow}
 use Rattle.ir_model.specs.declared.result.TrapKind.TheVariants as trap
-use Rattle.ir_model.specs.Machine.{Goes, Stops, shown_of, go_on, run}
+use Rattle.spec_machines.specs.Machine.{Goes, Stops, shown_of, go_on, run}
 use Rattle.ir_model.specs.State.{Traps}
 use Rattle.ir_model.specs.Step.{line_of, output_most}
 use Rattle.ir_machine.specs.declared.code.Op.{Op}
@@ -15,7 +15,7 @@ use Rattle.ir_machine.specs.declared.code.Exit.TheVariants.{Go, Choose, Return, 
 use Rattle.ir_machine.specs.declared.code.EdgeCode.{EdgeCode}
 use Rattle.ir_machine.specs.declared.code.BlockCode.{BlockCode}
 use Rattle.ir_machine.specs.Steps.{Stage, Byte, CodeStep, ways, input_value, stored, performed, walked, exited, at_op, in_block, code_step}
-use Rattle.ir_machine.proofs.Marks.{ways_none, ways_first}
+use Rattle.ir_machine.proofs.CodeShown.{ways_none, ways_first}
 
 abbrev pub AtMostOne : CodeStep → Type 0
 AtMostOne (Goes o s) = length (ways o) ≤ 1

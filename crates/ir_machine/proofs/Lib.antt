@@ -1,10 +1,11 @@
 pub mod Places
 pub mod Registers
 pub mod InStep
-pub mod Marks
+pub mod CodeShown
 pub mod Few
 pub mod Moves
-pub mod Mapped
+pub mod Counted
+pub mod Numbered
 pub mod Printing
 pub mod Loops
 pub mod Numbers

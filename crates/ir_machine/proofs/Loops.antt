@@ -3,19 +3,19 @@ use Rattle.std.proofs.Common.{◌≡◌, ℕ, suc, ◌+◌, ◌-◌, ◌<◌, Li
 use Rattle.ir_model.specs.declared.result.End.{End}
 use Rattle.ir_model.specs.declared.result.End.TheVariants as end
 use Rattle.ir_model.specs.declared.result.CallResult.{CallResult}
-use Rattle.ir_model.specs.Machine.{Goes, Stops, Ran, Open, Ended, shown_first, shown_of, go_on, run}
+use Rattle.spec_machines.specs.Machine.{Goes, Stops, Ran, Open, Ended, shown_first, shown_of, go_on, run}
 use Rattle.ir_model.specs.State.{Stop}
 use Rattle.ir_machine.specs.declared.code.BlockCode.{BlockCode}
 use Rattle.ir_machine.specs.declared.machine.Machine.{Machine}
 use Rattle.ir_machine.specs.declared.machine.Turn.{Turn}
-use Rattle.ir_machine.specs.Steps.{CodeStep, Mark, bytes, ways, stage_of, After, end_of, turn_end, turn_ways, code_step, result_from}
+use Rattle.ir_machine.specs.Steps.{CodeStep, CodeShown, bytes, ways, stage_of, After, end_of, turn_end, turn_ways, code_step, result_from}
 use Rattle.ir_machine.specs.Counts.{counted}
-use Rattle.ir_machine.proofs.Marks.{bytes-append, ways_first, counted-append}
+use Rattle.ir_machine.proofs.CodeShown.{bytes-append, ways_first, counted-append}
 
 abbrev pub ended_with : End → List ℕ → CallResult
 ended_with e text = record { printed = text; end = e }
 
-from_more : (before : List ℕ) (shown : List Mark) (r : Ran Mark Stop) → result_from (before ++ bytes shown) r ≡ result_from before (shown_first shown r)
+from_more : (before : List ℕ) (shown : List CodeShown) (r : Ran CodeShown Stop) → result_from (before ++ bytes shown) r ≡ result_from before (shown_first shown r)
 from_more before shown (Open p) =
     ap (ended_with end.StepsSpent) (append_assoc before (bytes shown) (bytes p) ∙ ap (λ l. before ++ l) (sym (bytes-append shown p)))
 from_more before shown (Ended p stop) =

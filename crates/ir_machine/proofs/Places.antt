@@ -1,5 +1,5 @@
 -- Names, their places in a list, and the results among the registers of a function.
-use Rattle.std.proofs.Common.{◌≡◌, ℕ, zero, suc, ◌+◌, ◌<◌, ◌≤◌, Bool, true, false, cond, List, [], ◌∷◌, ◌++◌, length, map, drop, Option, Some, None, refl, sym, ◌∙◌, ap, subst, inl, inr, arith}
+use Rattle.std.proofs.Common.{◌≡◌, ℕ, zero, suc, ◌+◌, ◌<◌, ◌≤◌, Bool, true, false, cond, List, [], ◌∷◌, ◌++◌, length, map, take, drop, Option, Some, None, refl, sym, ◌∙◌, ap, subst, inl, inr, arith}
 use Rattle.std.specs.Prelude.{slice_get, position, unwrap_or, nat_lt}
 use Rattle.std.specs.List.{position_or_len}
 use Rattle.std.proofs.lemmas.List.Recursion.{is_position_or_len}
@@ -7,14 +7,19 @@ use Rattle.std.proofs.lemmas.Bool.{cases_lt, cond_below, cond_above}
 use Rattle.std.specs.Option.{option_map}
 use Rattle.std.specs.List.{flat_map, cons_option}
 use Rattle.std.proofs.lemmas.Slice.Eq.{bytes_eq-Decides}
-use Rattle.ir_tree.specs.Names.{same, first_place, Indexes}
-use Rattle.ir_tree.specs.declared.index.Index.{Index}
+use Rattle.ir_tree.specs.Blocks.{labels, block_named}
+use Rattle.ir_tree.specs.Names.{same}
+use Rattle.ir_tree.specs.Operands.{result_name, result_names}
+use Rattle.ir_tree.specs.Phis.{phi_count, leading_phis, behind_phis}
 use Rattle.ir_tree.specs.declared.types.Instr.{Instr}
 use Rattle.ir_tree.specs.declared.types.Block.{Block}
-use Rattle.ir_tree.specs.declared.types.Instr.TheVariants as ir
-use Rattle.ir_model.specs.Step.{block_named, Join, phi_of, phis, front_phis, body, behind_phis}
-use Rattle.ir_machine.specs.Names.{place_of}
-use Rattle.ir_machine.specs.Resolved.{result_name, results, labels}
+use Rattle.ir_machine.specs.Names.{number_of, number_in, AreNumbered}
+use Rattle.ir_machine.specs.declared.names.Numbers.{Numbers}
+
+-- the first place of a name, and the number of names where it is not among them
+abbrev pub place_of : List (List ℕ) → List ℕ → ℕ
+place_of [] x = 0
+place_of (n ∷ ns) x = cond (same x n) 0 (suc (place_of ns x))
 
 pub same_true : (x y : List ℕ) → same x y ≡ true → x ≡ y
 same_true x y = (bytes_eq-Decides x y).0
@@ -67,27 +72,27 @@ among_option None ns x h = h
 among_option (Some n) ns x h = among_behind n ns x h
 
 -- the result of an instruction of a list is among the list's results
-pub among_results : (is : List Instr) (p : ℕ) (i : Instr) (rest : List Instr) (x : List ℕ) → drop p is ≡ i ∷ rest → result_name i ≡ Some x → Among (results is) x
+pub among_results : (is : List Instr) (p : ℕ) (i : Instr) (rest : List Instr) (x : List ℕ) → drop p is ≡ i ∷ rest → result_name i ≡ Some x → Among (result_names is) x
 among_results [] zero i rest x e r = cc
 among_results [] (suc p) i rest x e r = cc
 among_results (j ∷ js) zero i rest x e r =
     let head : j ≡ i = cc in
     let named : result_name j ≡ Some x = ap result_name head ∙ r in
-    let P : Option (List ℕ) → Type 0 = λ o. Among (cons_option o (results js)) x in
-    subst P (sym named) (among_head x (results js))
+    let P : Option (List ℕ) → Type 0 = λ o. Among (cons_option o (result_names js)) x in
+    subst P (sym named) (among_head x (result_names js))
 among_results (j ∷ js) (suc p) i rest x e r =
-    among_option (result_name j) (results js) x (among_results js p i rest x e r)
+    among_option (result_name j) (result_names js) x (among_results js p i rest x e r)
 
-among_block_at : (b c : Block) (bs : List Block) (o : Option Block) (x : List ℕ) (p : Bool) → (o ≡ Some c → Among (results c.instrs) x → Among (flat_map (λ (d : Block). results d.instrs) bs) x) → cond p (Some b) o ≡ Some c → Among (results c.instrs) x → Among (results b.instrs ++ flat_map (λ (d : Block). results d.instrs) bs) x
+among_block_at : (b c : Block) (bs : List Block) (o : Option Block) (x : List ℕ) (p : Bool) → (o ≡ Some c → Among (result_names c.instrs) x → Among (flat_map (λ (d : Block). result_names d.instrs) bs) x) → cond p (Some b) o ≡ Some c → Among (result_names c.instrs) x → Among (result_names b.instrs ++ flat_map (λ (d : Block). result_names d.instrs) bs) x
 among_block_at b c bs o x true rec e h =
     let found : b ≡ c = cc in
-    let P : Block → Type 0 = λ d. Among (results d.instrs ++ flat_map (λ (d : Block). results d.instrs) bs) x in
-    subst P (sym found) (among_first (results c.instrs) (flat_map (λ (d : Block). results d.instrs) bs) x h)
+    let P : Block → Type 0 = λ d. Among (result_names d.instrs ++ flat_map (λ (d : Block). result_names d.instrs) bs) x in
+    subst P (sym found) (among_first (result_names c.instrs) (flat_map (λ (d : Block). result_names d.instrs) bs) x h)
 among_block_at b c bs o x false rec e h =
-    among_last (results b.instrs) (flat_map (λ (d : Block). results d.instrs) bs) x (rec e h)
+    among_last (result_names b.instrs) (flat_map (λ (d : Block). result_names d.instrs) bs) x (rec e h)
 
 -- the results of a block that is found are among those of all blocks
-pub among_block : (bs : List Block) (l : List ℕ) (c : Block) (x : List ℕ) → block_named bs l ≡ Some c → Among (results c.instrs) x → Among (flat_map (λ (b : Block). results b.instrs) bs) x
+pub among_block : (bs : List Block) (l : List ℕ) (c : Block) (x : List ℕ) → block_named bs l ≡ Some c → Among (result_names c.instrs) x → Among (flat_map (λ (b : Block). result_names b.instrs) bs) x
 among_block [] l c x e h = cc
 among_block (b ∷ bs) l c x e h =
     among_block_at b c bs (block_named bs l) x (same l b.label) (among_block bs l c x) e h
@@ -132,11 +137,20 @@ position_is names x =
     let p = place_is_position names x in
     at_position (position_or_len (same x) names) (length names) (subst (λ k. k ≤ length names) p (place_bound names x)) ∙ sym p
 
--- a look-up in an index of these names gives the place
-pub place_found : (index : Index) (names own : List (List ℕ)) (x b : List ℕ) (at : Option ℕ) (len r : ℕ) → Indexes index names → names ≡ own → b ≡ x → at ≡ first_place index b → len ≡ length names → r ≡ unwrap_or at len → r ≡ place_of own x
-place_found index names own x b at len r has same_names same_name at_is len_is r_is =
-    r_is ∙ ap (λ (o : Option ℕ). unwrap_or o len) (at_is ∙ has b) ∙ ap (λ k. unwrap_or (position (same b) names) k) len_is
-    ∙ position_is names b ∙ (λ i. place_of (same_names i) (same_name i))
+-- a name that is among these has a first place
+pub place_among : (names : List (List ℕ)) (x : List ℕ) → Among names x → position (same x) names ≡ Some (place_of names x)
+place_among names x h =
+    let p = place_is_position names x in
+    let below : position_or_len (same x) names < length names = subst (λ k. k < length names) p h in
+    sym (cond_below {X = Option ℕ} (position_or_len (same x) names) (length names) (Some (position_or_len (same x) names)) None below) ∙ ap (λ k. Some k) (sym p)
+
+-- numbers by place are those of the definition
+pub placed : (names : List (List ℕ)) → ◌≡◌ {A = List ℕ → ℕ} (number_of names) (place_of names)
+placed names = λ i x. position_is names x i
+
+-- the numbers that are found are those of the names
+pub numbers_are : (numbers : Numbers) (names : List (List ℕ)) → AreNumbered numbers names → ◌≡◌ {A = List ℕ → ℕ} (number_in numbers) (number_of names)
+numbers_are numbers names h = λ i x. unwrap_or (h.found x i) (h.count i)
 
 block_at_if : (b : Block) (bs : List Block) (l : List ℕ) (p : Bool) → slice_get bs (place_of (labels bs) l) ≡ block_named bs l → slice_get (b ∷ bs) (cond p 0 (suc (place_of (labels bs) l))) ≡ cond p (Some b) (block_named bs l)
 block_at_if b bs l true rec = refl
@@ -156,35 +170,34 @@ named_label [] l c e = cc
 named_label (b ∷ bs) l c e =
     named_if b c l (block_named bs l) (same l b.label) refl (named_label bs l c) e
 
-among_behind_phis : (o : Option Join) (i : Instr) (is : List Instr) (x : List ℕ) → (Among (results (body is)) x → Among (results is) x) → Among (results (behind_phis o (i ∷ is) (body is))) x → Among (results (i ∷ is)) x
-among_behind_phis None i is x rec h = h
-among_behind_phis (Some p) i is x rec h = among_option (result_name i) (results is) x (rec h)
+among_drop : (n : ℕ) (is : List Instr) (x : List ℕ) → Among (result_names (drop n is)) x → Among (result_names is) x
+among_drop zero [] x h = h
+among_drop zero (i ∷ is) x h = h
+among_drop (suc n) [] x h = h
+among_drop (suc n) (i ∷ is) x h = among_option (result_name i) (result_names is) x (among_drop n is x h)
 
 -- what stands behind the phis is among all
-pub among_body : (is : List Instr) (x : List ℕ) → Among (results (body is)) x → Among (results is) x
-among_body [] x h = h
-among_body (i ∷ is) x h = among_behind_phis (phi_of i) i is x (among_body is x) h
+pub among_behind_phis : (is : List Instr) (x : List ℕ) → Among (result_names (behind_phis is)) x → Among (result_names is) x
+among_behind_phis is x h = among_drop (phi_count is) is x h
 
--- the results of these phis are among the names
-abbrev pub AllAmong : List (List ℕ) → List Join → Type 0
+-- the results of these instructions are among the names
+abbrev pub AllAmong : List (List ℕ) → List Instr → Type 0
 AllAmong names [] = Unit {0}
-AllAmong names (p ∷ ps) = Among names p.0 × AllAmong names ps
+AllAmong names (i ∷ is) = ((x : List ℕ) → result_name i ≡ Some x → Among names x) × AllAmong names is
 
-phi_named : (i : Instr) (p : Join) → phi_of i ≡ Some p → result_name i ≡ Some p.0
-phi_named (ir.Phi into ty entries) p e =
-    let q : (into, entries) ≡ p = cc in ap (λ (j : Join). Some j.0) q
-phi_named _ p e = cc
+first_among : (i : Instr) (is : List Instr) (x : List ℕ) → result_name i ≡ Some x → Among (result_names (i ∷ is)) x
+first_among i is x e =
+    let P : Option (List ℕ) → Type 0 = λ o. Among (cons_option o (result_names is)) x in
+    subst P (sym e) (among_head x (result_names is))
 
-first_among : (i : Instr) (is : List Instr) (p : Join) → phi_of i ≡ Some p → Among (results (i ∷ is)) p.0
-first_among i is p e =
-    let P : Option (List ℕ) → Type 0 = λ o. Among (cons_option o (results is)) p.0 in
-    subst P (sym (phi_named i p e)) (among_head p.0 (results is))
+all_taken : (names : List (List ℕ)) (n : ℕ) (is : List Instr) → ((x : List ℕ) → Among (result_names is) x → Among names x) → AllAmong names (take n is)
+all_taken names zero [] up = tt
+all_taken names zero (i ∷ is) up = tt
+all_taken names (suc n) [] up = tt
+all_taken names (suc n) (i ∷ is) up = (
+  λ x e. up x (first_among i is x e),
+  all_taken names n is (λ x h. up x (among_option (result_name i) (result_names is) x h)),
+)
 
-front_among : (names : List (List ℕ)) (i : Instr) (is : List Instr) (o : Option Join) → phi_of i ≡ o → ((x : List ℕ) → Among (results (i ∷ is)) x → Among names x) → AllAmong names (phis is) → AllAmong names (front_phis o (phis is))
-front_among names i is None e up rec = tt
-front_among names i is (Some p) e up rec = (up p.0 (first_among i is p e), rec)
-
-pub phis_among : (names : List (List ℕ)) (is : List Instr) → ((x : List ℕ) → Among (results is) x → Among names x) → AllAmong names (phis is)
-phis_among names [] up = tt
-phis_among names (i ∷ is) up =
-    front_among names i is (phi_of i) refl up (phis_among names is (λ x h. up x (among_option (result_name i) (results is) x h)))
+pub phis_among : (names : List (List ℕ)) (is : List Instr) → ((x : List ℕ) → Among (result_names is) x → Among names x) → AllAmong names (leading_phis is)
+phis_among names is up = all_taken names (phi_count is) is up

@@ -2,12 +2,12 @@
 use Rattle.std.proofs.Common.{◌≡◌, ℕ, ◌+◌, Bool, true, false, cond, List, [], ◌++◌, length, map, refl, sym, ◌∙◌, ap, subst, length-append}
 use Rattle.std.proofs.lemmas.List.{append-nil}
 use Rattle.ir_model.specs.declared.result.TrapKind.TheVariants as trap
-use Rattle.ir_model.specs.Machine.{Goes, Stops}
+use Rattle.spec_machines.specs.Machine.{Goes, Stops}
 use Rattle.ir_model.specs.State.{Traps}
 use Rattle.ir_machine.specs.declared.machine.Machine.{Machine}
 use Rattle.ir_machine.specs.declared.machine.Turn.TheVariants as turn
 use Rattle.ir_machine.specs.Steps.{Stage, Byte, stage_of, Prints, After, put}
-use Rattle.ir_machine.proofs.Marks.{bytes_all, ways_none}
+use Rattle.ir_machine.proofs.CodeShown.{bytes_all, ways_none}
 
 module _ (m n : Machine) (text : List ℕ) (block : n.block ≡ m.block) (place : n.place ≡ m.place) (registers : n.registers.items ≡ m.registers.items) where
   abbrev longer : Stage

@@ -1,21 +1,25 @@
 -- Registers by number hold what the registers by name hold.
-use Rattle.std.proofs.Common.{◌≡◌, ◌≢◌, ℕ, zero, suc, ◌<◌, Bool, true, false, cond, List, [], ◌∷◌, ◌++◌, length, map, Some, refl, sym, ◌∙◌, ap, subst, arith, get_or-set_same, get_or-set_other}
+use Rattle.std.proofs.Common.{◌≡◌, ◌≢◌, ℕ, zero, suc, ◌<◌, Bool, true, false, cond, List, [], ◌∷◌, ◌++◌, length, map, Option, Some, None, refl, sym, ◌∙◌, ap, subst, arith, get_or-set_same, get_or-set_other}
 use Rattle.std.proofs.Math.ListN.{length-replicate}
 use Rattle.std.specs.Prelude.{slice_get, slice_set, unwrap_or, replicate}
 use Rattle.std.proofs.Math.ListN.{length-set}
 use Rattle.std.proofs.lemmas.Option.{unwrap_or-slice_get}
+use Rattle.std.specs.List.{cons_option}
+use Rattle.std.specs.Option.{option_map}
 use Rattle.ir_tree.specs.Names.{same}
+use Rattle.ir_tree.specs.Operands.{Entries, result_name}
+use Rattle.ir_tree.specs.Phis.{entries_of}
+use Rattle.ir_tree.specs.declared.types.Instr.{Instr}
 use Rattle.ir_tree.specs.declared.types.Ty.{Ty}
 use Rattle.ir_tree.specs.declared.types.Operand.{Operand}
 use Rattle.ir_tree.specs.declared.types.Operand.TheVariants.{Int, Null, Local, Global}
 use Rattle.ir_model.specs.State.{Registers, held, arguments}
-use Rattle.ir_model.specs.Step.{value_of, Entries, Join, first_for, taken, with_phis}
-use Rattle.ir_machine.specs.Names.{place_of}
+use Rattle.ir_model.specs.Step.{value_of, taken, phi_value, with_result, with_phis}
 use Rattle.ir_machine.specs.declared.code.Move.{Move}
-use Rattle.ir_machine.specs.declared.code.Input.TheVariants.{Number}
-use Rattle.ir_machine.specs.Resolved.{input_of, join_of, move_from}
+use Rattle.ir_machine.specs.declared.code.Input.{Input}
+use Rattle.ir_machine.specs.Resolved.{input_of, value_on, taken_input, phi_input, move_of, moves_from}
 use Rattle.ir_machine.specs.Steps.{input_value, put_all}
-use Rattle.ir_machine.proofs.Places.{same_true, same_self, Among, AllAmong, place_apart}
+use Rattle.ir_machine.proofs.Places.{place_of, same_true, same_self, Among, AllAmong, place_apart}
 
 abbrev pub register : List (List ℕ) → List ℕ → List ℕ → ℕ
 register names regs x = unwrap_or (slice_get regs (place_of names x)) 0
@@ -26,7 +30,7 @@ pub record Holds (names : List (List ℕ)) (rs : Registers) (regs : List ℕ) : 
   pub holds : (x : List ℕ) → register names regs x ≡ held rs x
 
 module _ (names : List (List ℕ)) (rs : Registers) (regs : List ℕ) (h : Holds names rs regs) where
-  pub input_same : (o : Operand) → input_value regs (input_of names o) ≡ value_of rs o
+  pub input_same : (o : Operand) → input_value regs (input_of (place_of names) o) ≡ value_of rs o
   input_same (Int n) = refl
   input_same Null = refl
   input_same (Local x) = h.holds x
@@ -54,29 +58,35 @@ module _ (names : List (List ℕ)) (rs : Registers) (regs : List ℕ) (h : Holds
     holds = λ x. assigned_at d v a x (same x d) refl;
   }
 
-  entry_if : (label : List ℕ) (e : Operand × List ℕ) (es : Entries) (b : Bool) → input_value regs (unwrap_or (slice_get (map (λ e. input_of names e.0) es) (place_of (map (λ e. e.1) es) label)) (Number 0)) ≡ taken rs (first_for label es)
-      → input_value regs (unwrap_or (slice_get (input_of names e.0 ∷ map (λ e. input_of names e.0) es) (cond b 0 (suc (place_of (map (λ e. e.1) es) label)))) (Number 0)) ≡ taken rs (cond b (Some e.0) (first_for label es))
-  entry_if label e es true rec = input_same e.0
-  entry_if label e es false rec = rec
+  taken_same : (o : Option Operand) → input_value regs (taken_input (place_of names) o) ≡ taken rs o
+  taken_same None = refl
+  taken_same (Some o) = input_same o
 
-  -- the entry that stands at the place of a label is the first for it
-  pub entry_same : (label : List ℕ) (es : Entries) → input_value regs (unwrap_or (slice_get (map (λ e. input_of names e.0) es) (place_of (map (λ e. e.1) es) label)) (Number 0)) ≡ taken rs (first_for label es)
-  entry_same label [] = refl
-  entry_same label (e ∷ es) = entry_if label e es (same label e.1) (entry_same label es)
-
-abbrev pub moves_of : List (List ℕ) → List ℕ → List Join → List Move
-moves_of names label ps = map (move_from label) (map (join_of names) ps)
+  -- the value of a phi is that of its input
+  pub phi_same : (label : List ℕ) (es : Option Entries) → input_value regs (phi_input (place_of names) label es) ≡ phi_value rs label es
+  phi_same label None = refl
+  phi_same label (Some es) = taken_same (value_on label (Some es))
 
 -- moves that all read the registers before do what the phis do
-pub holds_moved : (names : List (List ℕ)) (before : Registers) (old : List ℕ) → Holds names before old → (label : List ℕ) (ps : List Join) (rs : Registers) (regs : List ℕ) → Holds names rs regs → AllAmong names ps
-    → Holds names (with_phis before label ps rs) (put_all regs (moves_of names label ps) (map (λ (m : Move). input_value old m.source) (moves_of names label ps)))
-holds_moved names before old hold label [] rs regs h a = h
-holds_moved names before old hold label (p ∷ ps) rs regs h a =
-    let value : input_value old (move_from label (join_of names p)).source ≡ taken before (first_for label p.1) =
-    entry_same names before old hold label p.1 in
-    let P : ℕ → Type 0 = λ v. Holds names ((p.0, taken before (first_for label p.1)) ∷ rs) (slice_set regs (place_of names p.0) v) in
-    holds_moved names before old hold label ps ((p.0, taken before (first_for label p.1)) ∷ rs) (slice_set regs (place_of names p.0) (input_value old (move_from label (join_of names p)).source))
-    (subst P (sym value) (holds_assigned names rs regs h p.0 (taken before (first_for label p.1)) a.0)) a.1
+module _ (names : List (List ℕ)) (before : Registers) (old : List ℕ) (hold : Holds names before old) (label : List ℕ) where
+  abbrev pub read : List Move → List ℕ
+  read ms = map (λ (m : Move). input_value old m.source) ms
+
+  one_moved : (ms : List Move) (source : Input) (v : ℕ) (rest : List Instr) → input_value old source ≡ v
+      → ((rs : Registers) (regs : List ℕ) → Holds names rs regs → Holds names (with_phis before label rest rs) (put_all regs ms (read ms)))
+      → (o : Option (List ℕ)) → ((x : List ℕ) → o ≡ Some x → Among names x) → (rs : Registers) (regs : List ℕ) → Holds names rs regs
+      → Holds names (with_phis before label rest (with_result o v rs)) (put_all regs (cons_option (option_map (λ (x : List ℕ). let m : Move = record { into = place_of names x; source = source } in m) o) ms) (read (cons_option (option_map (λ (x : List ℕ). let m : Move = record { into = place_of names x; source = source } in m) o) ms)))
+  one_moved ms source v rest e rec None a rs regs h = rec rs regs h
+  one_moved ms source v rest e rec (Some x) a rs regs h =
+      let P : ℕ → Type 0 = λ w. Holds names ((x, v) ∷ rs) (slice_set regs (place_of names x) w) in
+      rec ((x, v) ∷ rs) (slice_set regs (place_of names x) (input_value old source)) (subst P (sym e) (holds_assigned names rs regs h x v (a x refl)))
+
+  pub holds_moved : (is : List Instr) (rs : Registers) (regs : List ℕ) → Holds names rs regs → AllAmong names is
+      → Holds names (with_phis before label is rs) (put_all regs (moves_from (place_of names) label is) (read (moves_from (place_of names) label is)))
+  holds_moved [] rs regs h a = h
+  holds_moved (i ∷ is) rs regs h a =
+      one_moved (moves_from (place_of names) label is) (phi_input (place_of names) label (entries_of i)) (phi_value before label (entries_of i)) is (phi_same names before old hold label (entries_of i))
+      (λ rs' regs' h'. holds_moved is rs' regs' h' a.1) (result_name i) a.0 rs regs h
 
 -- registers that were not assigned
 abbrev pub blank : ℕ → List ℕ

@@ -1,27 +1,26 @@
 -- Counts that are raised way by way have risen by the traversals.
 use Rattle.std.proofs.Common.{◌≡◌, ◌≢◌, ℕ, zero, suc, ◌+◌, ◌^◌, ◌<◌, ◌≤◌, ◌==◌, Bool, true, false, cond, List, [], ◌∷◌, length, get_or, Option, Some, None, refl, sym, ◌∙◌, ap, subst, arith, get_or-set_same, get_or-set_other}
 use Rattle.std.proofs.Math.ListN.{length-set}
-use Rattle.std.specs.Prelude.{slice_get, slice_set, ◌&&◌}
+use Rattle.std.specs.Prelude.{slice_get, slice_set, position, option_and_then, ◌&&◌}
 use Rattle.std.specs.Option.{option_map}
-use Rattle.std.specs.List.{count_by, position_or_len}
-use Rattle.std.proofs.lemmas.List.Recursion.{is_position_or_len}
+use Rattle.std.specs.List.{count_by}
 use Rattle.std.proofs.lemmas.List.Sums.{sum_by-cons}
 use Rattle.std.proofs.lemmas.Bool.{eqb-true, eq-eqb}
 use Rattle.std.proofs.lemmas.Option.{slice_get_within, get_or_from_slice_get}
+use Rattle.ir_tree.specs.Blocks.{labels, block_place}
+use Rattle.ir_tree.specs.Functions.{function_at, numbered}
 use Rattle.ir_tree.specs.Names.{same}
 use Rattle.ir_tree.specs.declared.types.Block.{Block}
 use Rattle.ir_tree.specs.declared.types.Function.{Function}
 use Rattle.ir_tree.specs.declared.types.Module.{Module}
 use Rattle.ir_model.specs.State.{Shown, Printed, Entered, Walked}
-use Rattle.ir_model.specs.Step.{function_at}
-use Rattle.ir_model.specs.Log.{Walk, Into, Out, log, block_place, is_walk_of}
-use Rattle.ir_machine.specs.Names.{place_of}
-use Rattle.ir_machine.specs.Resolved.{labels}
+use Rattle.ir_model.specs.Log.{Walk, Into, Out, log, is_at, sought_place, is_walk_of}
 use Rattle.ir_machine.specs.Steps.{Way, ways}
 use Rattle.ir_machine.specs.Counts.{one_more, raised, raised_to, raised_way, counted}
-use Rattle.ir_machine.specs.Slots.{edges_before, edges_of_all, first_edge_of, slot_of, HasEdge, HasEdgeIn, IsWayOut, place_in, block_slots}
+use Rattle.ir_machine.specs.Slots.{edges_of_all, first_edge_of, slot_of, HasEdge, HasEdgeIn, IsWayOut, place_in, block_slots}
 use Rattle.ir_machine.proofs.InStep.{view, Own}
-use Rattle.ir_machine.proofs.Numbers.{block_slot, slot_inside, slot_apart, SameEdge, decided}
+use Rattle.ir_machine.proofs.Places.{place_of, place_among}
+use Rattle.ir_machine.proofs.Numbers.{ways_before, block_slot, slot_inside, slot_apart, SameEdge, decided}
 
 got : (xs : List ℕ) (i : ℕ) → i < length xs → slice_get xs i ≡ Some (get_or xs i 0)
 got [] i h = absurd (omega arith)
@@ -88,13 +87,11 @@ counted_most starts counts (w ∷ ws) s =
     let one = way_most counts w.position s (slice_get starts w.block) in
     omega (arith, rec, one)
 
-label_step : (b : Bool) (n : ℕ) → cond b 0 (suc n) ≡ cond b 0 (1 + n)
-label_step true n = refl
-label_step false n = omega arith
-
-place_label : (bs : List Block) (l : List ℕ) → place_of (labels bs) l ≡ position_or_len (λ (b : Block). same l b.label) bs
-place_label bs l =
-    is_position_or_len (λ cs. place_of (labels cs) l) (λ (b : Block). same l b.label) refl (λ b cs. label_step (same l b.label) (place_of (labels cs) l)) bs
+-- a block with a way out is one of these
+way_within : (bs : List Block) (b p : ℕ) → IsWayOut (slice_get bs b) p → b < length (labels bs)
+way_within [] b p h = absurd h
+way_within (c ∷ bs) zero p h = omega arith
+way_within (c ∷ bs) (suc b) p h = let rec = way_within bs b p h in omega (arith, rec)
 
 both_true : (a b : Bool) → a && b ≡ true → (a ≡ true) × (b ≡ true)
 both_true true true e = (refl, refl)
@@ -118,33 +115,37 @@ module _ (m : Module) (k : ℕ) (f : Function) (at : function_at m k ≡ Some f)
   own_edge : (l : List ℕ) (p : ℕ) → IsWayOut (slice_get f.blocks (place l)) p → HasEdge m k (Some (place l)) p
   own_edge l p h = subst (λ o. HasEdgeIn o (Some (place l)) p) (sym at) h
 
-  place_is : (l : List ℕ) → block_place (function_at m k) l ≡ place l
-  place_is l = ap (λ o. block_place o l) at ∙ sym (place_label f.blocks l)
+  inside : (l : List ℕ) (p : ℕ) → IsWayOut (slice_get f.blocks (place l)) p → place l < length (labels f.blocks)
+  inside l p h = way_within f.blocks (place l) p h
 
-  place_there : k ≡ j → (l : List ℕ) → block_place (function_at m j) l ≡ place l
-  place_there q l = ap (λ n. block_place (function_at m n) l) (sym q) ∙ place_is l
+  place_is : (l : List ℕ) (p : ℕ) → IsWayOut (slice_get f.blocks (place l)) p → sought_place m k l ≡ Some (place l)
+  place_is l p h =
+      ap (option_and_then (λ (g : Function). block_place g.blocks l)) at ∙ place_among (labels f.blocks) l (inside l p h)
 
-  walk_slot : (l : List ℕ) (p : ℕ) (b : Option ℕ) → is_walk_of m j b position (Out k l p) ≡ true → slot_of m k (Some (place l)) p ≡ slot_of m j b position
-  walk_slot l p None e = cc
-  walk_slot l p (Some q) e =
-      let first = both_true (k == j && block_place (function_at m j) l == q) (p == position) e in
-      let second = both_true (k == j) (block_place (function_at m j) l == q) first.0 in
+  place_there : k ≡ j → (l : List ℕ) (p : ℕ) → IsWayOut (slice_get f.blocks (place l)) p → sought_place m j l ≡ Some (place l)
+  place_there q l p h = ap (λ n. sought_place m n l) (sym q) ∙ place_is l p h
+
+  walk_slot : (l : List ℕ) (p : ℕ) (b : Option ℕ) → IsWayOut (slice_get f.blocks (place l)) p → is_walk_of m j b position (Out k l p) ≡ true → slot_of m k (Some (place l)) p ≡ slot_of m j b position
+  walk_slot l p None h e = cc
+  walk_slot l p (Some q) h e =
+      let first = both_true (k == j && is_at q (sought_place m j l)) (p == position) e in
+      let second = both_true (k == j) (is_at q (sought_place m j l)) first.0 in
       let same_function : k ≡ j = eqb-true k j second.0 in
       let same_place : place l ≡ q =
-      sym (place_there same_function l) ∙ eqb-true (block_place (function_at m j) l) q second.1 in
+      eqb-true (place l) q (ap (is_at q) (sym (place_there same_function l p h)) ∙ second.1) in
       let same_position : p ≡ position = eqb-true p position first.1 in
       λ i. slot_of m (same_function i) (Some (same_place i)) (same_position i)
 
-  slot_walk : (l : List ℕ) (p : ℕ) (b : Option ℕ) → (k ≡ j) × SameEdge (Some (place l)) p b position → is_walk_of m j b position (Out k l p) ≡ true
-  slot_walk l p None e = absurd e.1
-  slot_walk l p (Some q) e =
-      all_true (k == j) (block_place (function_at m j) l == q) (p == position) (eq-eqb k j e.0) (eq-eqb (block_place (function_at m j) l) q (place_there e.0 l ∙ e.1.0)) (eq-eqb p position e.1.1)
+  slot_walk : (l : List ℕ) (p : ℕ) (b : Option ℕ) → IsWayOut (slice_get f.blocks (place l)) p → (k ≡ j) × SameEdge (Some (place l)) p b position → is_walk_of m j b position (Out k l p) ≡ true
+  slot_walk l p None h e = absurd e.1
+  slot_walk l p (Some q) h e =
+      all_true (k == j) (is_at q (sought_place m j l)) (p == position) (eq-eqb k j e.0) (ap (is_at q) (place_there e.0 l p h) ∙ eq-eqb (place l) q e.1.0) (eq-eqb p position e.1.1)
 
   -- a walk is one of the edge where it has the edge's slot
   is_walk : (l : List ℕ) (p : ℕ) → IsWayOut (slice_get f.blocks (place l)) p → is_walk_of m j block position (Out k l p) ≡ (slot_of m k (Some (place l)) p == slot)
   is_walk l p h =
-      decided (is_walk_of m j block position (Out k l p)) (slot_of m k (Some (place l)) p) slot (walk_slot l p block)
-      (λ e. slot_walk l p block (slot_apart m.functions k (Some (place l)) p j block position (own_edge l p h) edge e))
+      decided (is_walk_of m j block position (Out k l p)) (slot_of m k (Some (place l)) p) slot (walk_slot l p block h)
+      (λ e. slot_walk l p block h (slot_apart (numbered m.functions) k (Some (place l)) p j block position (own_edge l p h) edge e))
 
   entry_slot : (b : Option ℕ) → is_walk_of m j b position (Into k) ≡ true → HasEdge m j b position → slot_of m k None 0 ≡ slot_of m j b position
   entry_slot None e h =
@@ -160,16 +161,16 @@ module _ (m : Module) (k : ℕ) (f : Function) (at : function_at m k ≡ Some f)
   slot_entry None e = eq-eqb k j e.0
   slot_entry (Some q) e = absurd e.1
 
-  pub is_entry : is_walk_of m j block position (Into k) ≡ (slot_of m k None 0 == slot)
-  is_entry =
-      let own : HasEdge m k None 0 = subst (λ o. HasEdgeIn o None 0) (sym at) tt in
+  pub is_entry : 0 < length f.blocks → is_walk_of m j block position (Into k) ≡ (slot_of m k None 0 == slot)
+  is_entry some =
+      let own : HasEdge m k None 0 = subst (λ o. HasEdgeIn o None 0) (sym at) some in
       decided (is_walk_of m j block position (Into k)) (slot_of m k None 0) slot (λ e. entry_slot block e edge)
-      (λ e. slot_entry block (slot_apart m.functions k None 0 j block position own edge e))
+      (λ e. slot_entry block (slot_apart (numbered m.functions) k None 0 j block position own edge e))
 
-  start_at : (l : List ℕ) (p : ℕ) (o : Option Block) → IsWayOut o p → (counts : List ℕ) → raised_way counts p (option_map (λ (b : Block). first_edge_of m k + 1 + edges_before f.blocks (place l)) o) ≡ raised counts (first_edge_of m k + (1 + edges_before f.blocks (place l) + p))
+  start_at : (l : List ℕ) (p : ℕ) (o : Option Block) → IsWayOut o p → (counts : List ℕ) → raised_way counts p (option_map (λ (b : Block). first_edge_of m k + 1 + ways_before f.blocks (place l)) o) ≡ raised counts (first_edge_of m k + (1 + ways_before f.blocks (place l) + p))
   start_at l p None h counts = absurd h
   start_at l p (Some b) h counts =
-      let e : first_edge_of m k + 1 + edges_before f.blocks (place l) + p ≡ first_edge_of m k + (1 + edges_before f.blocks (place l) + p) = omega arith in
+      let e : first_edge_of m k + 1 + ways_before f.blocks (place l) + p ≡ first_edge_of m k + (1 + ways_before f.blocks (place l) + p) = omega arith in
       ap (raised counts) e
 
   -- a way out is counted at its slot
@@ -189,16 +190,16 @@ module _ (m : Module) (k : ℕ) (f : Function) (at : function_at m k ≡ Some f)
   counted_is (Entered i ∷ xs) counts own all room = absurd own
   counted_is (Walked i l p ∷ xs) counts own all room =
       let here : slot_of m k (Some (place l)) p < edges_of_all m =
-      slot_inside m.functions k (Some (place l)) p (own_edge l p own.0.1) in
+      slot_inside (numbered m.functions) k (Some (place l)) p (own_edge l p own.0.1) in
       let w : ℕ = slot_of m k (Some (place l)) p in
-      let inside : w < length counts = omega (arith, here, all) in
+      let within : w < length counts = omega (arith, here, all) in
       let left : ℕ = length (ways (view m k f xs)) in
       let enough : get_or counts w 0 + 1 < 2 ^ 64 = omega (arith, room w) in
       let next_all : length (raised counts w) ≡ edges_of_all m = raised_length counts w ∙ all in
       let next_room : (s : ℕ) → get_or (raised counts w) s 0 + left < 2 ^ 64 =
       λ s. omega (arith, room s, raised_most counts w s) in
       let rec = counted_is xs (raised counts w) own.1 next_all next_room in
-      let rise = raised_at counts w slot inside enough in
+      let rise = raised_at counts w slot within enough in
       let seen : ◌≡◌ {A = ℕ} (cond (is_walk_of m j block position (Out i l p)) 1 0) (cond (w == slot) 1 0) =
       ap (λ n. cond (is_walk_of m j block position (Out n l p)) 1 0) own.0.0 ∙ ap (λ b. cond b 1 0) (is_walk l p own.0.1) in
       let total = sum_by-cons (λ (x : Walk). cond (is_walk_of m j block position x) 1 0) (Out i l p) (log xs) in

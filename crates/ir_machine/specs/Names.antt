@@ -1,8 +1,17 @@
 -- The numbers of names in a list.
-use Rattle.std.specs.Prelude.{ℕ, suc, List, [], ◌∷◌, cond}
-use Rattle.ir_tree.specs.Names.{same}
+use Rattle.std.specs.Prelude.{◌≡◌, ℕ, List, length, position, unwrap_or}
+use Rattle.ir_tree.specs.Names.{same, first_place, Indexes}
+use Rattle.ir_machine.specs.declared.names.Numbers.{Numbers}
 
 -- the first place of a name, and the number of names where it is not among them
-abbrev pub place_of : List (List ℕ) → List ℕ → ℕ
-place_of [] x = 0
-place_of (n ∷ ns) x = cond (same x n) 0 (suc (place_of ns x))
+abbrev pub number_of : List (List ℕ) → List ℕ → ℕ
+number_of names x = unwrap_or (position (same x) names) (length names)
+
+-- the number that is found for a name
+abbrev pub number_in : Numbers → List ℕ → ℕ
+number_in numbers x = unwrap_or (first_place numbers.index x) numbers.count
+
+-- these names are numbered in their order
+pub record AreNumbered (numbers : Numbers) (names : List (List ℕ)) : Type 0 where
+  pub found : Indexes numbers.index names
+  pub count : numbers.count ≡ length names

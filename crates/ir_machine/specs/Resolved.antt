@@ -1,7 +1,12 @@
 -- The resolved code of a module: registers and blocks go by number.
-use Rattle.std.specs.Prelude.{ℕ, List, [], ◌∷◌, ◌++◌, Option, Some, None, Bool, ◌&&◌, if◌then◌else◌, length, map, find, slice_get, unwrap_or, codes}
-use Rattle.std.specs.List.{flat_map, filter_map}
+use Rattle.std.specs.Prelude.{ℕ, List, [], ◌∷◌, ◌++◌, Option, Some, None, Bool, ◌&&◌, if◌then◌else◌, length, map, flat_map, filter_map, slice_get}
+use Rattle.std.specs.Option.{option_map}
+use Rattle.ir_tree.specs.Blocks.{labels}
+use Rattle.ir_tree.specs.Functions.{function_named, numbered, print_name}
 use Rattle.ir_tree.specs.Names.{same}
+use Rattle.ir_tree.specs.Operands.{Entries, result_name, result_names}
+use Rattle.ir_tree.specs.Phis.{entries_of, leading_phis, behind_phis, value_for}
+use Rattle.ir_tree.specs.Successors.{successors}
 use Rattle.ir_tree.specs.declared.types.Ty.{Ty}
 use Rattle.ir_tree.specs.declared.types.Ty.TheVariants.{I1, I8, I16, I32, I64, Ptr}
 use Rattle.ir_tree.specs.declared.types.Operand.{Operand}
@@ -13,9 +18,8 @@ use Rattle.ir_tree.specs.declared.types.Term.TheVariants.{Br, CondBr, Switch, Re
 use Rattle.ir_tree.specs.declared.types.Block.{Block}
 use Rattle.ir_tree.specs.declared.types.Function.{Function}
 use Rattle.ir_tree.specs.declared.types.Module.{Module}
-use Rattle.ir_model.specs.Step.{operator, comparison, is_without_blocks, function_named, phi_of, phis, body}
-use Rattle.ir_model.specs.Step as semantics
-use Rattle.ir_machine.specs.Names.{place_of}
+use Rattle.ir_model.specs.Step.{operator, comparison, declares}
+use Rattle.ir_machine.specs.Names.{number_of}
 use Rattle.ir_machine.specs.declared.code.Input.{Input}
 use Rattle.ir_machine.specs.declared.code.Input.TheVariants.{Number, Register}
 use Rattle.ir_machine.specs.declared.code.Op.{Op}
@@ -24,44 +28,33 @@ use Rattle.ir_machine.specs.declared.code.Exit.{Exit}
 use Rattle.ir_machine.specs.declared.code.Exit.TheVariants.{Go, Choose, Return, Stuck}
 use Rattle.ir_machine.specs.declared.code.Move.{Move}
 use Rattle.ir_machine.specs.declared.code.EdgeCode.{EdgeCode}
-use Rattle.ir_machine.specs.declared.joins.Join.{Join}
 use Rattle.ir_machine.specs.declared.code.BlockCode.{BlockCode}
 use Rattle.ir_machine.specs.declared.code.FunctionCode.{FunctionCode}
 
--- the name that an instruction gives its result
-abbrev pub result_name : Instr → Option (List ℕ)
-result_name (ir.Binary into o flags ty left right) = Some into
-result_name (ir.Compare into p ty left right) = Some into
-result_name (ir.Convert into o flags from value to) = Some into
-result_name (ir.Freeze into ty value) = Some into
-result_name (ir.Select into c ty first second prof) = Some into
-result_name (ir.Phi into ty entries) = Some into
-result_name (ir.Alloca into mem) = Some into
-result_name (ir.Load into ty address) = Some into
-result_name (ir.Store ty value address) = None
-result_name (ir.Gep into inbounds mem address indices) = Some into
-result_name (ir.Call into ret callee values prof) = into
-result_name (ir.Count symbol size index step) = None
-
-abbrev pub results : List Instr → List (List ℕ)
-results is = filter_map result_name is
-
 -- the registers of a function: its parameters, and then the results of its blocks
 abbrev pub register_names : Function → List (List ℕ)
-register_names f = map (λ p. p.1) f.params ++ flat_map (λ (b : Block). results b.instrs) f.blocks
+register_names f = map (λ p. p.1) f.params ++ flat_map (λ (b : Block). result_names b.instrs) f.blocks
 
-abbrev pub labels : List Block → List (List ℕ)
-labels bs = map (λ (b : Block). b.label) bs
+-- the phis of each block
+abbrev pub block_phis : List Block → List (List Instr)
+block_phis bs = map (λ (b : Block). leading_phis b.instrs) bs
 
--- does the module declare the function that prints?
-abbrev pub declares_print : Module → Bool
-declares_print m = is_without_blocks (function_named m (codes "print_i64"))
+-- the labels of a phi's entries
+abbrev pub entry_labels : Option Entries → List (List ℕ)
+entry_labels None = []
+entry_labels (Some es) = map (λ e. e.1) es
 
-module _ (registers : List (List ℕ)) where
+-- the value of a phi's first entry for a label
+abbrev pub value_on : List ℕ → Option Entries → Option Operand
+value_on label None = None
+value_on label (Some es) = value_for label es
+
+-- registers have these numbers
+module _ (register : List ℕ → ℕ) where
   abbrev pub input_of : Operand → Input
   input_of (Int n) = Number n
   input_of Null = Number 0
-  input_of (Local x) = Register (place_of registers x)
+  input_of (Local x) = Register (register x)
   input_of (Global x) = Number 0
 
   -- a call that prints its first argument
@@ -80,40 +73,32 @@ module _ (registers : List (List ℕ)) where
   exit_of (Ret v) = Return (returned_input v)
   exit_of Unreachable = Stuck
 
-  -- a phi: its register, and the labels and the values of its entries
-  abbrev pub join_of : semantics.Join → Join
-  join_of p = record {
-    into = place_of registers p.0;
-    labels = map (λ e. e.1) p.1;
-    inputs = map (λ e. input_of e.0) p.1;
-  }
+  abbrev pub taken_input : Option Operand → Input
+  taken_input None = Number 0
+  taken_input (Some o) = input_of o
 
-  -- the phis of each block
-  abbrev pub joins_of : List Block → List (List Join)
-  joins_of bs = map (λ (b : Block). map join_of (phis b.instrs)) bs
+  -- where a phi's value comes from on an edge from the block of this label: the first entry for the label counts
+  abbrev pub phi_input : List ℕ → Option Entries → Input
+  phi_input label es = taken_input (value_on label es)
 
--- what a phi does on an edge from the block of this label: the first entry for the label counts
-abbrev pub move_from : List ℕ → Join → Move
-move_from label j = record {
-  into = j.into;
-  source = unwrap_or (slice_get j.inputs (place_of j.labels label)) (Number 0);
-}
+  -- what a phi does on the edge
+  abbrev pub move_of : List ℕ → Instr → Option Move
+  move_of label i = option_map (λ x. record { into = register x; source = phi_input label (entries_of i) }) (result_name i)
 
-abbrev pub moves_from : List ℕ → Option (List Join) → List Move
-moves_from label None = []
-moves_from label (Some js) = map (move_from label) js
+  abbrev pub moves_from : List ℕ → List Instr → List Move
+  moves_from label phis = filter_map (move_of label) phis
 
--- the edges out of a block of this label, where the blocks have these labels and phis
-module _ (ls : List (List ℕ)) (joins : List (List Join)) (label : List ℕ) where
-  abbrev pub edge_to : List ℕ → EdgeCode
-  edge_to to = record { block = place_of ls to; moves = moves_from label (slice_get joins (place_of ls to)) }
+  abbrev pub moves_at : List ℕ → Option (List Instr) → List Move
+  moves_at label None = []
+  moves_at label (Some phis) = moves_from label phis
 
-  abbrev pub edges_of : Term → List EdgeCode
-  edges_of (Br to) = edge_to to ∷ []
-  edges_of (CondBr c first second prof) = edge_to first ∷ edge_to second ∷ []
-  edges_of (Switch ty v default cases prof) = []
-  edges_of (Ret v) = []
-  edges_of Unreachable = []
+  -- the edges out of a block of this label, where labels have these numbers, and blocks these phis
+  module _ (number : List ℕ → ℕ) (phis : List (List Instr)) (label : List ℕ) where
+    abbrev pub edge_to : List ℕ → EdgeCode
+    edge_to to = record { block = number to; moves = moves_at label (slice_get phis (number to)) }
+
+    abbrev pub edges_of : Term → List EdgeCode
+    edges_of t = map edge_to (successors t)
 
 -- the operation at the one integer type of the language so far
 abbrev pub op_at_i64 : Ty → Op → Op
@@ -125,39 +110,49 @@ op_at_i64 I32 op = Fail
 op_at_i64 Ptr op = Fail
 
 -- `prints` says whether the module declares the function that prints
-module _ (prints : Bool) (registers : List (List ℕ)) where
+module _ (prints : Bool) (register : List ℕ → ℕ) where
   abbrev pub call_op : Operand → List (Ty × Operand) → Op
-  call_op (Global f) values =
-      if same (codes "print_i64") f && prints then print_op registers (slice_get values 0) else Fail
+  call_op (Global f) values = if same print_name f && prints then print_op register (slice_get values 0) else Fail
   call_op (Int n) values = Fail
   call_op Null values = Fail
   call_op (Local x) values = Fail
 
   abbrev pub op_of : Instr → Op
   op_of (ir.Binary into o flags ty left right) =
-      op_at_i64 ty (Binary (place_of registers into) (operator o) (input_of registers left) (input_of registers right))
+      op_at_i64 ty (Binary (register into) (operator o) (input_of register left) (input_of register right))
   op_of (ir.Compare into p ty left right) =
-      op_at_i64 ty (Compare (place_of registers into) (comparison p) (input_of registers left) (input_of registers right))
+      op_at_i64 ty (Compare (register into) (comparison p) (input_of register left) (input_of register right))
+  op_of (ir.Convert into o flags from value to) = Fail
+  op_of (ir.Freeze into ty value) = Fail
+  op_of (ir.Select into c ty first second prof) = Fail
+  op_of (ir.Phi into ty entries) = Fail
+  op_of (ir.Alloca into mem) = Fail
+  op_of (ir.Load into ty address) = Fail
+  op_of (ir.Store ty value address) = Fail
+  op_of (ir.Gep into inbounds mem address indices) = Fail
   op_of (ir.Call into ret callee values prof) = call_op callee values
-  op_of _ = Fail
+  op_of (ir.Count symbol size index step) = Fail
 
-  abbrev pub block_code : List (List ℕ) → List (List Join) → Block → BlockCode
-  block_code ls joins b = record {
-    ops = map op_of (body b.instrs);
-    exit = exit_of registers b.term;
-    edges = edges_of ls joins b.label b.term;
+  abbrev pub block_code : (List ℕ → ℕ) → List (List Instr) → Block → BlockCode
+  block_code number phis b = record {
+    ops = map op_of (behind_phis b.instrs);
+    exit = exit_of register b.term;
+    edges = edges_of register number phis b.label b.term;
   }
 
-abbrev pub function_code : Bool → Function → FunctionCode
-function_code prints f = record {
+-- the code of a function, where its registers and its labels have these numbers
+abbrev pub numbered_code : Bool → (List ℕ → ℕ) → (List ℕ → ℕ) → Function → FunctionCode
+numbered_code prints register number f = record {
   registers = length (register_names f);
-  blocks = map (block_code prints (register_names f) (labels f.blocks) (joins_of (register_names f) f.blocks)) f.blocks;
+  blocks = map (block_code prints register number (block_phis f.blocks)) f.blocks;
 }
 
--- the code of these functions of a module, in order
+abbrev pub function_code : Bool → Function → FunctionCode
+function_code prints f = numbered_code prints (number_of (register_names f)) (number_of (labels f.blocks)) f
+
+-- the code of the functions of a module that have a number, in order
 abbrev pub functions_code : List Function → List FunctionCode
-functions_code fs =
-    map (function_code (is_without_blocks (find (λ (f : Function). same (codes "print_i64") f.name) fs))) fs
+functions_code fs = map (function_code (declares (function_named fs print_name))) (numbered fs)
 
 abbrev pub module_code : Module → List FunctionCode
 module_code m = functions_code m.functions

@@ -1,46 +1,24 @@
 -- A number for each edge of each function, so that walks can be counted.
-use Rattle.std.specs.Prelude.{ℕ, zero, suc, ◌+◌, ◌<◌, List, [], ◌∷◌, Option, Some, None, length, slice_get}
-use Rattle.ir_tree.specs.Successors.{successors}
+use Rattle.std.specs.Prelude.{ℕ, ◌+◌, ◌<◌, List, [], ◌∷◌, Option, Some, None, length, sum_by, take, slice_get}
+use Rattle.ir_tree.specs.Edges.{edges_in}
+use Rattle.ir_tree.specs.Functions.{function_at, numbered}
+use Rattle.ir_tree.specs.Successors.{ways_out}
 use Rattle.ir_tree.specs.declared.types.Block.{Block}
 use Rattle.ir_tree.specs.declared.types.Function.{Function}
 use Rattle.ir_tree.specs.declared.types.Module.{Module}
-use Rattle.ir_model.specs.Step.{function_at}
 use Rattle.ir_machine.specs.declared.slots.FunctionSlots.{FunctionSlots}
 
--- the edges out of a block: one for each successor position, or one where it has no successor
-abbrev pub edges_to : List (List ℕ) → ℕ
-edges_to [] = 1
-edges_to (s ∷ ss) = suc (length ss)
-
-abbrev pub edges_out : Block → ℕ
-edges_out b = edges_to (successors b.term)
-
--- the edges out of the blocks before a place
-abbrev pub edges_before : List Block → ℕ → ℕ
-edges_before [] place = 0
-edges_before (b ∷ bs) zero = 0
-edges_before (b ∷ bs) (suc place) = edges_out b + edges_before bs place
-
--- the edges of a function: the one by which it is entered, and those out of its blocks
-abbrev pub edges_in : Function → ℕ
-edges_in f = 1 + edges_before f.blocks (length f.blocks)
-
 -- the edges of the functions before a number
-abbrev pub edges_before_function : List Function → ℕ → ℕ
-edges_before_function [] k = 0
-edges_before_function (f ∷ fs) zero = 0
-edges_before_function (f ∷ fs) (suc k) = edges_in f + edges_before_function fs k
-
 abbrev pub first_edge_of : Module → ℕ → ℕ
-first_edge_of m k = edges_before_function m.functions k
+first_edge_of m k = sum_by edges_in (take k (numbered m.functions))
 
 abbrev pub edges_of_all : Module → ℕ
-edges_of_all m = edges_before_function m.functions (length m.functions)
+edges_of_all m = sum_by edges_in (numbered m.functions)
 
 abbrev pub place_in : Option Function → Option ℕ → ℕ → ℕ
 place_in None block position = 0
 place_in (Some f) None position = 0
-place_in (Some f) (Some place) position = 1 + edges_before f.blocks place + position
+place_in (Some f) (Some place) position = 1 + sum_by ways_out (take place f.blocks) + position
 
 -- The slot of an edge: functions follow in the order of the text, and in one its entry and then block by block the edges
 -- out by position
@@ -49,21 +27,22 @@ slot_of m k block position = first_edge_of m k + place_in (function_at m k) bloc
 
 abbrev pub IsWayOut : Option Block → ℕ → Type 0
 IsWayOut None position = ⊥
-IsWayOut (Some b) position = position < edges_out b
+IsWayOut (Some b) position = position < ways_out b
 
 abbrev pub HasEdgeIn : Option Function → Option ℕ → ℕ → Type 0
 HasEdgeIn None block position = ⊥
-HasEdgeIn (Some f) None position = Unit {0}
+HasEdgeIn (Some f) None position = 0 < length f.blocks
 HasEdgeIn (Some f) (Some place) position = IsWayOut (slice_get f.blocks place) position
 
--- Function k has this edge: its entry, where no block is named, or one out of the block at this place
+-- Function k has this edge: the one into its entry, where no block is named and the function is defined, or one out of
+-- the block at this place
 abbrev pub HasEdge : Module → ℕ → Option ℕ → ℕ → Type 0
 HasEdge m k block position = HasEdgeIn (function_at m k) block position
 
 -- the first slots of blocks, from a number on
 abbrev pub block_slots : ℕ → List Block → List ℕ
 block_slots next [] = []
-block_slots next (b ∷ bs) = next ∷ block_slots (next + edges_out b) bs
+block_slots next (b ∷ bs) = next ∷ block_slots (next + ways_out b) bs
 
 abbrev pub function_slots : ℕ → Function → FunctionSlots
 function_slots next f = record { entry = next; blocks = block_slots (next + 1) f.blocks }

@@ -7,7 +7,7 @@ use Rattle.ir_model.specs.declared.result.TrapKind.TheVariants as trap
 use Rattle.ir_model.specs.declared.result.End.{End}
 use Rattle.ir_model.specs.declared.result.End.TheVariants as end
 use Rattle.ir_model.specs.declared.result.CallResult.{CallResult}
-use Rattle.ir_model.specs.Machine.{Next, Goes, Stops, Ran, Open, Ended}
+use Rattle.spec_machines.specs.Machine.{Next, Goes, Stops, Ran, Open, Ended}
 use Rattle.ir_model.specs.State.{Stop, Returns, Traps}
 use Rattle.ir_model.specs.Step.{line_of, output_most}
 use Rattle.ir_machine.specs.declared.code.Input.{Input}
@@ -46,22 +46,22 @@ pub record Way : Type 0 where
   pub position : ℕ
 
 -- what a step shows: a printed byte, or that a block was left
-pub data Mark : Type 0 where
-  Byte : (byte : ℕ) → Mark
-  Left : (way : Way) → Mark
+pub data CodeShown : Type 0 where
+  Byte : (byte : ℕ) → CodeShown
+  Left : (way : Way) → CodeShown
 
-abbrev pub bytes : List Mark → List ℕ
+abbrev pub bytes : List CodeShown → List ℕ
 bytes [] = []
 bytes (Byte b ∷ xs) = b ∷ bytes xs
 bytes (Left w ∷ xs) = bytes xs
 
-abbrev pub ways : List Mark → List Way
+abbrev pub ways : List CodeShown → List Way
 ways [] = []
 ways (Byte b ∷ xs) = ways xs
 ways (Left w ∷ xs) = w ∷ ways xs
 
 abbrev pub CodeStep : Type 0
-CodeStep = Next Mark Stop Stage
+CodeStep = Next CodeShown Stop Stage
 
 abbrev pub input_value : List ℕ → Input → ℕ
 input_value regs (Number n) = n
@@ -103,7 +103,7 @@ put_all regs (m ∷ ms) vs = put_all (slice_set regs m.into (unwrap_or (slice_ge
 abbrev pub moved : List ℕ → List Move → List ℕ
 moved regs ms = put_all regs ms (map (λ (m : Move). input_value regs m.source) ms)
 
-abbrev pub way : ℕ → ℕ → List Mark
+abbrev pub way : ℕ → ℕ → List CodeShown
 way block position = Left (record { block = block; position = position }) ∷ []
 
 abbrev pub walked : Stage → ℕ → Option EdgeCode → CodeStep
@@ -134,7 +134,7 @@ end_of (Returns value) = end.Returned value
 end_of (Traps kind) = end.Trapped kind
 
 -- the result of a run, where these bytes were printed before it
-abbrev pub result_from : List ℕ → Ran Mark Stop → CallResult
+abbrev pub result_from : List ℕ → Ran CodeShown Stop → CallResult
 result_from before (Open shown) = record { printed = before ++ bytes shown; end = end.StepsSpent }
 result_from before (Ended shown stop) = record { printed = before ++ bytes shown; end = end_of stop }
 

@@ -2,12 +2,13 @@
 #![tactic(auto)]
 
 mod code;
-mod joins;
+mod laws;
 mod machine;
 mod names;
 mod operands;
 #[cfg(test)]
 mod phi_tests;
+mod phis;
 mod program;
 mod resolving;
 mod run;
@@ -17,6 +18,7 @@ mod tests;
 mod trace;
 mod turns;
 
-pub use program::{Code, ResolveError, resolve, resolve_module};
+pub use laws::edges_are_counted;
+pub use program::{Code, ResolveError, resolve};
 pub use run::run_call;
 pub use trace::trace_call;

@@ -1,48 +1,54 @@
 // Names with their numbers.
-ghost use Rattle.std.specs.Prelude.{◌≡◌, IfOk};
-ghost use Rattle.ir_machine.specs.Names.{place_of};
+ghost use Rattle.std.specs.Prelude.{◌≡◌, ℕ, List, [], ◌++◌, ◌∷◌, OnOk};
+ghost use Rattle.ir_machine.specs.Names.{number_in, AreNumbered};
 
 use ir_tree::{Index, Name};
 use pgo_base::NoMemory;
 use std::alloc::Global;
-use std::marker::Model;
 
-/// A list of names in which the first place of a name is found without a scan. Contracts see it as
-/// the list.
+/// Names, numbered from 0 on in their order. A name that stands more than once has its first number,
+/// and is found without a scan.
 #[derive(Drop)]
-pub struct Names {
-    names: Vec<Name>,
+pub struct Numbers {
     index: Index,
+    count: usize,
 }
 
-impl Model for Names {
-    ghost use Rattle.std.specs.Prelude.{ℕ, List};
-    ghost use Rattle.std.specs.Coded.{coded_list, coded_ℕ};
-    ghost use Rattle.ir_tree.specs.Names.{Indexes};
-
-    ghost Value = { List (List ℕ) };
-
-    ghost coded = { coded_list (coded_list coded_ℕ) };
-
-    ghost view = { λ n. n.names.items };
-
-    ghost invariant = { λ n. Indexes n.index n.names.items };
-}
-
-impl Names {
-    /// The names in this order.
-    pub fn of(alloc: Global, names: Vec<Name>) -> Result<Names, NoMemory>
-        ensures { IfOk result (λ n. n ≡ names.items) }
+impl Numbers {
+    /// No names.
+    pub fn new(alloc: Global) -> Numbers
+        ensures { AreNumbered result [] }
     {
-        let index = Index::of(alloc, names.as_slice())?;
-        Ok(Names { names, index })
+        Numbers {
+            index: Index::new(alloc),
+            count: 0,
+        }
     }
 
-    /// The first place of a name, and the number of names where it is not among them.
-    pub fn place(&self, name: &Name) -> usize
-        ensures { result ≡ place_of self.now name.now }
+    /// Puts a name behind the others.
+    pub fn add(&mut self, alloc: Global, name: &Name) -> Result<(), NoMemory>
+        ensures { (names : List (List ℕ)) → AreNumbered self.old names → OnOk result (AreNumbered self.new (names ++ name.now ∷ [])) }
     {
-        let names = self.names.as_slice();
-        self.index.find(name.bytes()).unwrap_or(names.len())
+        if self.count == usize::MAX {
+            // No memory holds so many names.
+            return Err(NoMemory);
+        }
+        self.index.add(alloc, name.bytes(), self.count)?;
+        self.count += 1;
+        Ok(())
+    }
+
+    /// How many names there are.
+    pub fn count(&self) -> usize
+        ensures { result ≡ self.now.count }
+    {
+        self.count
+    }
+
+    /// The number of a name, and the number of all names where it is not among them.
+    pub fn number(&self, name: &Name) -> usize
+        ensures { result ≡ number_in self.now name.now }
+    {
+        self.index.find(name.bytes()).unwrap_or(self.count)
     }
 }

@@ -10,14 +10,14 @@ ghost use Rattle.ir_tree.specs.declared.types.Block.{Block as Blocks};
 ghost use Rattle.ir_model.specs.PhiExamples.{phi_one as one_entry, phi_two as two_entries, add_one as adding_one, less as compared, start_block, turn_block, done_block, swapping};
 ghost use Rattle.ir_model.specs.LogExamples.{loop_entry, loop_head, loop_body, loop_done, counting};
 
+use crate::program::resolve_module;
 use crate::tests::{block, declared_print, local, name, print_of, returns};
-use crate::{Code, resolve_module, run_call, trace_call};
+use crate::{Code, run_call, trace_call};
 use ir_model::{Call, CallResult, End, QuietProbe};
 use ir_tree::{
-    BinOp, Block, Few, Flags, Function, Instr, Module, Name, Operand, Pred, Ret, Seq, Term, Ty,
+    BinOp, Block, Flags, Function, Instr, Module, Name, Operand, Pred, Ret, Seq, Term, Ty,
 };
 use pgo_base::NoMemory;
-use smallvec::SmallVec;
 use std::alloc::Global;
 use std::test::Fail;
 
@@ -32,13 +32,13 @@ fn phi_two(
 ) -> Result<Instr, NoMemory>
     ensures { IfOk result (λ i. i ≡ two_entries dest.now first before.now later.now behind.now) }
 {
-    let mut entries = SmallVec::new(alloc);
+    let mut entries = Vec::new(alloc);
     entries.push((Operand::Int(first), name(alloc, before)?))?;
     entries.push((local(alloc, later)?, name(alloc, behind)?))?;
     Ok(Instr::Phi {
         dest: name(alloc, dest)?,
         ty: Ty::I64,
-        entries: Few::of(entries),
+        entries: Seq::of(entries),
     })
 }
 
@@ -46,12 +46,12 @@ fn phi_two(
 fn phi_one(alloc: Global, dest: &str, value: &str, before: &str) -> Result<Instr, NoMemory>
     ensures { IfOk result (λ i. i ≡ one_entry dest.now value.now before.now) }
 {
-    let mut entries = SmallVec::new(alloc);
+    let mut entries = Vec::new(alloc);
     entries.push((local(alloc, value)?, name(alloc, before)?))?;
     Ok(Instr::Phi {
         dest: name(alloc, dest)?,
         ty: Ty::I64,
-        entries: Few::of(entries),
+        entries: Seq::of(entries),
     })
 }
 
@@ -159,6 +159,7 @@ fn swap_module(alloc: Global) -> Result<Module, NoMemory>
     })
 }
 
+#[tactic(auto, unfolding(ir_tree::specs::Functions::is_profile_name))]
 fn run_swap(alloc: Global, n: u64, steps: u64) -> Result<CallResult, NoMemory> {
     let module = swap_module(alloc)?;
     let code = resolve_module(alloc, &module)?;
@@ -236,6 +237,7 @@ fn count_module(alloc: Global) -> Result<Module, NoMemory>
     })
 }
 
+#[tactic(auto, unfolding(ir_tree::specs::Functions::is_profile_name))]
 fn trace_count(
     alloc: Global,
     code: &Code,

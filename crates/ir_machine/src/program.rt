@@ -1,5 +1,6 @@
 // The code of a module.
 ghost use Rattle.std.specs.Prelude.{◌≡◌, ◌<◌, [], IfOk, IsErrOf};
+ghost use Rattle.ir_tree.specs.Functions.{numbered};
 ghost use Rattle.ir_check.specs.ModuleKind.{kind_of};
 ghost use Rattle.ir_check.specs.declared.place.Kind.TheVariants as kinds;
 ghost use Rattle.ir_machine.specs.Resolved.{module_code};
@@ -16,17 +17,19 @@ use std::alloc::Global;
 use std::marker::Model;
 use thiserror::Error;
 
-/// A module that is ready to run: its names are resolved to numbers. Contracts see it as the module.
+/// A module that is ready to run: its names are resolved to numbers. It borrows the module, and
+/// contracts see it as the module.
 #[derive(Drop)]
-pub struct Code {
-    module: Module,
+pub struct Code<'a> {
+    module: &'a Module,
     functions: Seq<FunctionCode>,
     tallies: Seq<Tally>,
     numbering: Numbering,
 }
 
-impl Model for Code {
-    ghost use Rattle.std.specs.Prelude.{◌≡◌, [], length};
+impl<'a> Model for Code<'a> {
+    ghost use Rattle.std.specs.Prelude.{◌≡◌, []};
+    ghost use Rattle.ir_tree.specs.Functions.{numbered};
     ghost use Rattle.ir_tree.specs.declared.types.Module.{Module};
     ghost use Rattle.ir_machine.specs.Resolved.{module_code};
     ghost use Rattle.ir_machine.specs.Slots.{all_slots, edges_of_all};
@@ -37,12 +40,12 @@ impl Model for Code {
 
     ghost coded = { the_row.coded };
 
-    ghost view = { λ c. c.module };
+    ghost view = { λ c. c.module.now };
 
-    ghost invariant = { λ c. (c.functions ≡ module_code c.module) × (c.tallies ≡ []) × (c.numbering.functions ≡ all_slots 0 c.module.functions) × (c.numbering.total ≡ edges_of_all c.module) };
+    ghost invariant = { λ c. (c.functions ≡ module_code c.module.now) × (c.tallies ≡ []) × (c.numbering.functions ≡ all_slots 0 (numbered c.module.now.functions)) × (c.numbering.total ≡ edges_of_all c.module.now) };
 }
 
-impl Code {
+impl<'a> Code<'a> {
     /// What the module counts, one tally for each name. A module that isn't lowered counts nothing.
     pub fn tallies(&self) -> &[Tally]
         ensures { result.now ≡ [] }
@@ -50,8 +53,8 @@ impl Code {
         self.tallies.as_slice()
     }
 
-    /// How many edges the functions have in all: each its entry and those out of its blocks, one for
-    /// each successor position, or one where a block has no successor.
+    /// How many edges the functions have in all: each defined one its entry and those out of its
+    /// blocks, one for each successor position, or one where a block has no successor.
     pub fn edge_total(&self) -> u32
         ensures { result ≡ edges_of_all self.now }
     {
@@ -77,7 +80,7 @@ impl Code {
 
     /// The slots of each function, by its number.
     pub(crate) fn slots(&self) -> &[FunctionSlots]
-        ensures { result.now ≡ all_slots 0 self.now.functions }
+        ensures { result.now ≡ all_slots 0 (numbered self.now.functions) }
     {
         self.numbering.functions.as_slice()
     }
@@ -100,18 +103,8 @@ pub enum ResolveError {
     NoMemory,
 }
 
-impl From<NoMemory> for ResolveError {
-    ghost use Rattle.ir_machine.specs.declared.program.ResolveError.TheVariants as refusal;
-
-    ghost from_gives = { λ _ e. e ≡ refusal.NoMemory };
-
-    fn from(_: NoMemory) -> ResolveError {
-        ResolveError::NoMemory
-    }
-}
-
 /// The code of an accepted module. `WrongKind` comes exactly where its kind is Counted.
-pub fn resolve(alloc: Global, module: &Checked) -> Result<Code, ResolveError>
+pub fn resolve<'a>(alloc: Global, module: &'a Checked) -> Result<Code<'a>, ResolveError>
     ensures code { IfOk result (λ code. code ≡ module.now) }
     ensures kind { IfOk result (λ _. kind_of module.now.functions ≡ kinds.Counted → ⊥) }
     ensures wrong_kind { IsErrOf result ResolveError.WrongKind → kind_of module.now.functions ≡ kinds.Counted }
@@ -119,18 +112,19 @@ pub fn resolve(alloc: Global, module: &Checked) -> Result<Code, ResolveError>
     if module.kind() == Kind::Counted {
         return Err(ResolveError::WrongKind);
     }
-    let code = resolve_module(alloc, module.module())?;
-    Ok(code)
+    match resolve_module(alloc, module.module()) {
+        Ok(code) => Ok(code),
+        Err(_) => Err(ResolveError::NoMemory),
+    }
 }
 
 /// Resolves the names of a module. Where its functions have 2^32 edges or more, which no accepted
 /// module has, the answer is `NoMemory`.
-pub fn resolve_module(alloc: Global, source: &Module) -> Result<Code, NoMemory>
-    ensures { IfOk result (λ code. code ≡ source.now) }
+pub(crate) fn resolve_module<'a>(alloc: Global, module: &'a Module) -> Result<Code<'a>, NoMemory>
+    ensures { IfOk result (λ code. code ≡ module.now) }
 {
-    let module = source.copy(alloc)?;
-    let functions = resolve_functions(alloc, source.functions.as_slice())?;
-    let numbering = number_functions(alloc, source.functions.as_slice())?;
+    let functions = resolve_functions(alloc, module.functions.as_slice())?;
+    let numbering = number_functions(alloc, module.functions.as_slice())?;
     Ok(Code {
         module,
         functions: Seq::of(functions),

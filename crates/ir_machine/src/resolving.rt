@@ -1,15 +1,22 @@
 // From a module to code: names become numbers once, and each instruction one operation.
-ghost use Rattle.std.specs.Prelude.{◌≡◌, ◌++◌, map, find, IfOk, OnOk, codes};
+ghost use Rattle.std.specs.Prelude.{◌≡◌, ℕ, List, ◌++◌, map, IfOk, OnOk};
 ghost use Rattle.std.specs.Option.{option_copied};
-ghost use Rattle.ir_tree.specs.Names.{same};
-ghost use Rattle.ir_model.specs.Step.{operator, comparison, is_without_blocks};
-ghost use Rattle.ir_machine.specs.Resolved.{result_name, results, register_names, labels, print_op, returned_input, exit_of, op_at_i64, call_op, op_of, block_code, function_code, functions_code};
+ghost use Rattle.ir_tree.specs.Blocks.{labels};
+ghost use Rattle.ir_tree.specs.Functions.{function_named, numbered, print_name};
+ghost use Rattle.ir_tree.specs.Operands.{listed, result_name, result_names};
+ghost use Rattle.ir_tree.specs.Phis as spec;
+ghost use Rattle.ir_model.specs.Step.{operator, comparison, declares};
+ghost use Rattle.ir_machine.specs.Names.{number_in, AreNumbered};
+ghost use Rattle.ir_machine.specs.Resolved.{register_names, print_op, returned_input, exit_of, op_at_i64, call_op, op_of, block_code, function_code, functions_code};
 
 use crate::code::{BlockCode, Exit, FunctionCode, Input, Op};
-use crate::joins::{Join, behind_phis, edges, joins_of_blocks};
-use crate::names::Names;
+use crate::names::Numbers;
 use crate::operands::input;
-use ir_tree::{BinOp, Block, Function, Instr, Name, Operand, Pred, Seq, Term, Ty};
+use crate::phis::{IndexedPhi, edges, phis_of_blocks};
+use ir_tree::{
+    BinOp, Block, Function, Instr, Name, Operand, Pred, Seq, Term, Ty, is_print_name,
+    is_profile_name, phi_count,
+};
 use ir_value::{ValueOp, ValuePred};
 use pgo_base::NoMemory;
 use std::alloc::Global;
@@ -61,14 +68,8 @@ fn at_i64(ty: Ty, op: Op) -> Op
     }
 }
 
-fn is_print_name(name: &Name) -> bool
-    ensures { result ≡ same (codes "print_i64") name.now }
-{
-    b"print_i64".as_slice() == name.bytes()
-}
-
-fn print_of(registers: &Names, value: Option<&(Ty, Operand)>) -> Op
-    ensures { result ≡ print_op registers.now (option_copied value.entry) }
+fn print_of(registers: &Numbers, value: Option<&(Ty, Operand)>) -> Op
+    ensures { result ≡ print_op (number_in registers.now) (option_copied value.entry) }
 {
     match value {
         Some((_, value)) => Op::Print {
@@ -79,12 +80,12 @@ fn print_of(registers: &Names, value: Option<&(Ty, Operand)>) -> Op
 }
 
 /// A call, where `prints` says whether the module declares the function that prints.
-fn call(prints: bool, registers: &Names, callee: &Operand, args: &[(Ty, Operand)]) -> Op
-    ensures { result ≡ call_op prints registers.now callee.now args.now }
+fn call(prints: bool, registers: &Numbers, callee: &Operand, args: &[(Ty, Operand)]) -> Op
+    ensures { result ≡ call_op prints (number_in registers.now) callee.now args.now }
 {
     match callee {
         Operand::Global(name) => {
-            if is_print_name(name) && prints {
+            if is_print_name(name.bytes()) && prints {
                 print_of(registers, args.first())
             } else {
                 Op::Fail
@@ -94,8 +95,8 @@ fn call(prints: bool, registers: &Names, callee: &Operand, args: &[(Ty, Operand)
     }
 }
 
-fn op(prints: bool, registers: &Names, instr: &Instr) -> Op
-    ensures { result ≡ op_of prints registers.now instr.now }
+fn op(prints: bool, registers: &Numbers, instr: &Instr) -> Op
+    ensures { result ≡ op_of prints (number_in registers.now) instr.now }
 {
     match instr {
         Instr::Binary {
@@ -107,7 +108,7 @@ fn op(prints: bool, registers: &Names, instr: &Instr) -> Op
             ..
         } => {
             let op = Op::Binary {
-                into: registers.place(dest),
+                into: registers.number(dest),
                 op: value_op(*op),
                 left: input(registers, left),
                 right: input(registers, right),
@@ -122,7 +123,7 @@ fn op(prints: bool, registers: &Names, instr: &Instr) -> Op
             right,
         } => {
             let op = Op::Compare {
-                into: registers.place(dest),
+                into: registers.number(dest),
                 pred: value_pred(*pred),
                 left: input(registers, left),
                 right: input(registers, right),
@@ -142,8 +143,8 @@ fn op(prints: bool, registers: &Names, instr: &Instr) -> Op
     }
 }
 
-fn returned(registers: &Names, value: &Option<(Ty, Operand)>) -> Option<Input>
-    ensures { result ≡ returned_input registers.now value.now }
+fn returned(registers: &Numbers, value: &Option<(Ty, Operand)>) -> Option<Input>
+    ensures { result ≡ returned_input (number_in registers.now) value.now }
 {
     match value {
         Some((_, operand)) => Some(input(registers, operand)),
@@ -151,8 +152,8 @@ fn returned(registers: &Names, value: &Option<(Ty, Operand)>) -> Option<Input>
     }
 }
 
-fn exit(registers: &Names, term: &Term) -> Exit
-    ensures { result ≡ exit_of registers.now term.now }
+fn exit(registers: &Numbers, term: &Term) -> Exit
+    ensures { result ≡ exit_of (number_in registers.now) term.now }
 {
     match term {
         Term::Br { .. } => Exit::Go,
@@ -171,10 +172,10 @@ fn exit(registers: &Names, term: &Term) -> Exit
 fn ops(
     alloc: Global,
     prints: bool,
-    registers: &Names,
+    registers: &Numbers,
     instrs: &[Instr],
 ) -> Result<Vec<Op>, NoMemory>
-    ensures { IfOk result (λ ops. ops.items ≡ map (op_of prints registers.now) instrs.now) }
+    ensures { IfOk result (λ ops. ops.items ≡ map (op_of prints (number_in registers.now)) instrs.now) }
 {
     let mut ops = Vec::with_capacity(alloc, instrs.len())?;
     for instr in instrs {
@@ -183,23 +184,26 @@ fn ops(
     Ok(ops)
 }
 
+/// What stands behind the phis in front of a list of instructions.
+fn behind_phis(instrs: &[Instr]) -> &[Instr]
+    ensures { result.now ≡ spec.behind_phis instrs.now }
+{
+    instrs.split_at(phi_count(instrs)).1
+}
+
 fn resolve_block(
     alloc: Global,
     prints: bool,
-    registers: &Names,
-    labels: &Names,
-    joins: &[Seq<Join>],
+    registers: &Numbers,
+    labels: &Numbers,
+    phis: &[Seq<IndexedPhi>],
     block: &Block,
 ) -> Result<BlockCode, NoMemory>
-    ensures { IfOk result (λ b. b ≡ block_code prints registers.now labels.now joins.now block.now) }
+    ensures { IfOk result (λ b. b ≡ block_code prints (number_in registers.now) (number_in labels.now) phis.now block.now) }
 {
-    let ops = ops(
-        alloc,
-        prints,
-        registers,
-        behind_phis(block.instrs.as_slice()),
-    )?;
-    let edges = edges(alloc, labels, joins, &block.label, &block.term)?;
+    let instrs = block.instrs.as_slice();
+    let ops = ops(alloc, prints, registers, behind_phis(instrs))?;
+    let edges = edges(alloc, registers, labels, phis, &block.label, &block.term)?;
     Ok(BlockCode {
         ops: Seq::of(ops),
         exit: exit(registers, &block.term),
@@ -207,79 +211,69 @@ fn resolve_block(
     })
 }
 
-/// The name that an instruction gives its result.
-fn result_of(instr: &Instr) -> Option<&Name>
-    ensures { option_copied result ≡ result_name instr.now }
+fn add_result(alloc: Global, registers: &mut Numbers, instr: &Instr) -> Result<(), NoMemory>
+    ensures { (names : List (List ℕ)) → AreNumbered registers.old names → OnOk result (AreNumbered registers.new (names ++ listed (result_name instr.now))) }
 {
-    match instr {
-        Instr::Binary { dest, .. }
-        | Instr::Compare { dest, .. }
-        | Instr::Convert { dest, .. }
-        | Instr::Freeze { dest, .. }
-        | Instr::Select { dest, .. }
-        | Instr::Phi { dest, .. }
-        | Instr::Alloca { dest, .. }
-        | Instr::Load { dest, .. }
-        | Instr::Gep { dest, .. } => Some(dest),
-        Instr::Call { dest, .. } => dest.as_ref(),
-        Instr::Store { .. } | Instr::Count { .. } => None,
+    match instr.result() {
+        Some((name, _ret)) => registers.add(alloc, name),
+        None => Ok(()),
     }
 }
 
-fn push_results(alloc: Global, names: &mut Vec<Name>, instrs: &[Instr]) -> Result<(), NoMemory>
-    ensures { OnOk result (names.new.items ≡ names.old.items ++ results instrs.now) }
+fn add_results(alloc: Global, registers: &mut Numbers, instrs: &[Instr]) -> Result<(), NoMemory>
+    ensures { (names : List (List ℕ)) → AreNumbered registers.old names → OnOk result (AreNumbered registers.new (names ++ result_names instrs.now)) }
 {
     for instr in instrs {
-        if let Some(name) = result_of(instr) {
-            names.push(name.copy(alloc)?)?;
-        }
+        add_result(alloc, registers, instr)?;
     }
     Ok(())
 }
 
-fn push_params(alloc: Global, names: &mut Vec<Name>, params: &[(Ty, Name)]) -> Result<(), NoMemory>
-    ensures { OnOk result (names.new.items ≡ names.old.items ++ map (λ p. p.1) params.now) }
+fn add_params(alloc: Global, registers: &mut Numbers, params: &[(Ty, Name)]) -> Result<(), NoMemory>
+    ensures { (names : List (List ℕ)) → AreNumbered registers.old names → OnOk result (AreNumbered registers.new (names ++ map (λ p. p.1) params.now)) }
 {
     for (_, name) in params {
-        names.push(name.copy(alloc)?)?;
+        registers.add(alloc, name)?;
     }
     Ok(())
 }
 
-fn names_of_registers(alloc: Global, function: &Function) -> Result<Vec<Name>, NoMemory>
-    ensures { IfOk result (λ names. names.items ≡ register_names function.now) }
+/// Numbers the registers of a function: its parameters, and then the results of its blocks.
+fn number_registers(alloc: Global, function: &Function) -> Result<Numbers, NoMemory>
+    ensures { IfOk result (λ registers. AreNumbered registers (register_names function.now)) }
 {
-    let mut names = Vec::new(alloc);
-    push_params(alloc, &mut names, function.params.as_slice())?;
+    let mut registers = Numbers::new(alloc);
+    add_params(alloc, &mut registers, function.params.as_slice())?;
     for block in function.blocks.as_slice() {
-        push_results(alloc, &mut names, block.instrs.as_slice())?;
+        add_results(alloc, &mut registers, block.instrs.as_slice())?;
     }
-    Ok(names)
+    Ok(registers)
 }
 
-fn names_of_blocks(alloc: Global, blocks: &[Block]) -> Result<Vec<Name>, NoMemory>
-    ensures { IfOk result (λ names. names.items ≡ labels blocks.now) }
+/// Numbers the labels of blocks.
+fn number_labels(alloc: Global, blocks: &[Block]) -> Result<Numbers, NoMemory>
+    ensures { IfOk result (λ numbers. AreNumbered numbers (labels blocks.now)) }
 {
-    let mut names = Vec::with_capacity(alloc, blocks.len())?;
+    let mut numbers = Numbers::new(alloc);
     for block in blocks {
-        names.push(block.label.copy(alloc)?)?;
+        numbers.add(alloc, &block.label)?;
     }
-    Ok(names)
+    Ok(numbers)
 }
 
 fn resolve_blocks(
     alloc: Global,
     prints: bool,
-    registers: &Names,
-    labels: &Names,
-    joins: &[Seq<Join>],
+    registers: &Numbers,
+    labels: &Numbers,
+    phis: &[Seq<IndexedPhi>],
     blocks: &[Block],
 ) -> Result<Vec<BlockCode>, NoMemory>
-    ensures { IfOk result (λ codes. codes.items ≡ map (block_code prints registers.now labels.now joins.now) blocks.now) }
+    ensures { IfOk result (λ codes. codes.items ≡ map (block_code prints (number_in registers.now) (number_in labels.now) phis.now) blocks.now) }
 {
     let mut codes = Vec::with_capacity(alloc, blocks.len())?;
     for block in blocks {
-        codes.push(resolve_block(alloc, prints, registers, labels, joins, block)?)?;
+        codes.push(resolve_block(alloc, prints, registers, labels, phis, block)?)?;
     }
     Ok(codes)
 }
@@ -291,32 +285,30 @@ fn resolve_function(
 ) -> Result<FunctionCode, NoMemory>
     ensures { IfOk result (λ f. f ≡ function_code prints function.now) }
 {
-    let names = names_of_registers(alloc, function)?;
-    let count = names.as_slice().len();
-    let registers = Names::of(alloc, names)?;
+    let registers = number_registers(alloc, function)?;
     let blocks = function.blocks.as_slice();
-    let labels = Names::of(alloc, names_of_blocks(alloc, blocks)?)?;
-    let joins = joins_of_blocks(alloc, &registers, blocks)?;
-    let codes = resolve_blocks(alloc, prints, &registers, &labels, joins.as_slice(), blocks)?;
+    let labels = number_labels(alloc, blocks)?;
+    let phis = phis_of_blocks(alloc, blocks)?;
+    let codes = resolve_blocks(alloc, prints, &registers, &labels, phis.as_slice(), blocks)?;
     Ok(FunctionCode {
-        registers: count,
+        registers: registers.count(),
         blocks: Seq::of(codes),
     })
 }
 
 /// Whether the first function of the name that prints is declared.
 fn prints(functions: &[Function]) -> bool
-    ensures { result ≡ is_without_blocks (find (λ f. same (codes "print_i64") f.name) functions.now) }
+    ensures { result ≡ declares (function_named functions.now print_name) }
 {
     for function in functions {
-        if is_print_name(&function.name) {
-            return function.blocks.as_slice().is_empty();
+        if is_print_name(function.name.bytes()) {
+            return function.is_declared();
         }
     }
     false
 }
 
-/// The code of each function of a module, in order.
+/// The code of each function that has a number, in order.
 pub fn resolve_functions(
     alloc: Global,
     functions: &[Function],
@@ -324,9 +316,11 @@ pub fn resolve_functions(
     ensures { IfOk result (λ codes. codes.items ≡ functions_code functions.now) }
 {
     let prints = prints(functions);
-    let mut codes = Vec::with_capacity(alloc, functions.len())?;
+    let mut codes = Vec::new(alloc);
     for function in functions {
-        codes.push(resolve_function(alloc, prints, function)?)?;
+        if !is_profile_name(function.name.bytes()) {
+            codes.push(resolve_function(alloc, prints, function)?)?;
+        }
     }
     Ok(codes)
 }

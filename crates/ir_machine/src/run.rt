@@ -1,9 +1,10 @@
 // The run of a call on resolved code.
 ghost use Rattle.std.specs.Prelude.{◌≡◌, List, [], ◌++◌, IfOk, OnErr, OnOk};
 ghost use Rattle.ir_model.specs.declared.probe.Event.{Event};
-ghost use Rattle.ir_model.specs.Machine.{run};
+ghost use Rattle.spec_machines.specs.Machine.{run, shown_of};
 ghost use Rattle.ir_model.specs.Run.{run_of, result_of, marks_of, IsValidCall};
-ghost use Rattle.ir_machine.specs.Steps.{stage_of, first_stage, code_step, result_from};
+ghost use Rattle.ir_machine.specs.Counts.{counted};
+ghost use Rattle.ir_machine.specs.Steps.{stage_of, first_stage, code_step, result_from, ways};
 
 use crate::code::FunctionCode;
 use crate::machine::Machine;
@@ -15,7 +16,7 @@ use pgo_base::NoMemory;
 use std::alloc::Global;
 
 /// The machine at the start of a function.
-pub fn machine_at(alloc: Global, function: &FunctionCode, args: &[u64]) -> Result<Machine, NoMemory>
+fn machine_at(alloc: Global, function: &FunctionCode, args: &[u64]) -> Result<Machine, NoMemory>
     ensures { IfOk result (λ m. (stage_of m ≡ first_stage function.now args.now) × (m.printed.items ≡ [])) }
 {
     let mut registers = Vec::from_slice(alloc, args)?;
@@ -29,17 +30,22 @@ pub fn machine_at(alloc: Global, function: &FunctionCode, args: &[u64]) -> Resul
     })
 }
 
-/// Runs a function from its first block.
-fn run_function(
+/// Runs a function from its first block, and counts what is walked, where `starts` has the first slot
+/// of each block.
+pub fn run_function(
     alloc: Global,
     function: &FunctionCode,
+    starts: &[u32],
     args: &[u64],
     steps: u64,
+    counts: &mut [u64],
 ) -> Result<CallResult, NoMemory>
-    ensures { IfOk result (λ r. r ≡ result_from [] (run (code_step function.now.blocks) steps (first_stage function.now args.now))) }
+    ensures result { IfOk result (λ r. r ≡ result_from [] (run (code_step function.now.blocks) steps (first_stage function.now args.now))) }
+    ensures counts { OnOk result (counts.new ≡ counted starts.now counts.old (ways (shown_of (run (code_step function.now.blocks) steps (first_stage function.now args.now))))) }
 {
     let mut machine = machine_at(alloc, function, args)?;
-    let end = run_on(function.blocks.as_slice(), &mut machine, steps)?;
+    let blocks = function.blocks.as_slice();
+    let end = run_on(blocks, starts, &mut machine, steps, counts)?;
     let Machine { printed, .. } = machine;
     Ok(CallResult {
         printed: Seq::of(printed),
@@ -47,14 +53,14 @@ fn run_function(
     })
 }
 
-/// Runs the function of a call.
+/// Runs the function of a call. Nothing is counted.
 fn run_valid(alloc: Global, code: &Code, call: &Call, steps: u64) -> Result<CallResult, NoMemory>
     requires { IsValidCall code.now call.now }
     ensures { IfOk result (λ r. r ≡ result_of (run_of code.now call.now steps)) }
 {
     let functions = code.functions();
     let function = &functions[call.function as usize];
-    run_function(alloc, function, call.args.as_slice(), steps)
+    run_function(alloc, function, &[], call.args.as_slice(), steps, &mut [])
 }
 
 /// Runs a call on the code of a module, for at most `steps` steps: what it prints and how it ends.

@@ -1,13 +1,16 @@
 // A number for each edge of each function, so that the walks of a run can be counted.
-ghost use Rattle.std.specs.Prelude.{◌≡◌, ◌+◌, length, slice_get, IfOk};
-ghost use Rattle.ir_tree.specs.Successors.{successors};
-ghost use Rattle.ir_machine.specs.Slots.{edges_to, edges_before, edges_in, edges_before_function, block_slots, function_slots, all_slots, slot_in, slot_at, entry_or};
+ghost use Rattle.std.specs.Prelude.{◌≡◌, ◌+◌, sum_by, slice_get, IfOk};
+ghost use Rattle.ir_tree.specs.Functions.{numbered};
+ghost use Rattle.ir_tree.specs.Successors.{ways_out};
+ghost use Rattle.ir_tree.specs.Edges.{edges_in};
+ghost use Rattle.ir_machine.specs.Slots.{block_slots, function_slots, all_slots, slot_in, slot_at, entry_or};
 
-use ir_tree::{Block, Function, Seq, Term};
+use ir_tree::{Block, Function, Seq, is_profile_name};
 use pgo_base::NoMemory;
 use std::alloc::Global;
 
-/// The slots of a function: that of its entry, and the first one of each block.
+/// The slots of a function: that of its entry, and the first one of each block. A declared function
+/// has none; its `entry` is the first slot behind it.
 #[derive(Debug, Drop)]
 pub struct FunctionSlots {
     pub entry: u32,
@@ -34,25 +37,14 @@ fn behind(next: u32, slots: usize) -> Result<u32, NoMemory>
     }
 }
 
-/// The number of edges out of a block: one for each successor, or one where it has none.
-fn edge_count(term: &Term) -> usize
-    ensures { result ≡ edges_to (successors term.now) }
-{
-    match term {
-        Term::Br { .. } | Term::Ret { .. } | Term::Unreachable => 1,
-        Term::CondBr { .. } => 2,
-        Term::Switch { cases, .. } => cases.as_slice().len() + 1,
-    }
-}
-
 /// Numbers the edges out of blocks from `next` on.
 fn number_blocks(alloc: Global, blocks: &[Block], next: &mut u32) -> Result<Vec<u32>, NoMemory>
-    ensures { IfOk result (λ slots. (slots.items ≡ block_slots next.old blocks.now) × (next.new ≡ next.old + edges_before blocks.now (length blocks.now))) }
+    ensures { IfOk result (λ slots. (slots.items ≡ block_slots next.old blocks.now) × (next.new ≡ next.old + sum_by ways_out blocks.now)) }
 {
     let mut slots = Vec::with_capacity(alloc, blocks.len())?;
     for block in blocks {
         slots.push(*next)?;
-        *next = behind(*next, edge_count(&block.term))?;
+        *next = behind(*next, block.ways_out())?;
     }
     Ok(slots)
 }
@@ -66,6 +58,12 @@ fn number_function(
     ensures { IfOk result (λ slots. (slots ≡ function_slots next.old function.now) × (next.new ≡ next.old + edges_in function.now)) }
 {
     let entry = *next;
+    if function.is_declared() {
+        return Ok(FunctionSlots {
+            entry,
+            blocks: Seq::of(Vec::new(alloc)),
+        });
+    }
     *next = behind(entry, 1)?;
     let blocks = number_blocks(alloc, function.blocks.as_slice(), next)?;
     Ok(FunctionSlots {
@@ -74,14 +72,16 @@ fn number_function(
     })
 }
 
-/// Numbers the edges of functions from 0 on.
+/// Numbers the edges of the functions that have a number, from 0 on.
 pub fn number_functions(alloc: Global, functions: &[Function]) -> Result<Numbering, NoMemory>
-    ensures { IfOk result (λ n. (n.functions ≡ all_slots 0 functions.now) × (n.total ≡ edges_before_function functions.now (length functions.now))) }
+    ensures { IfOk result (λ n. (n.functions ≡ all_slots 0 (numbered functions.now)) × (n.total ≡ sum_by edges_in (numbered functions.now))) }
 {
     let mut next = 0;
-    let mut slots = Vec::with_capacity(alloc, functions.len())?;
+    let mut slots = Vec::new(alloc);
     for function in functions {
-        slots.push(number_function(alloc, function, &mut next)?)?;
+        if !is_profile_name(function.name.bytes()) {
+            slots.push(number_function(alloc, function, &mut next)?)?;
+        }
     }
     Ok(Numbering {
         functions: Seq::of(slots),

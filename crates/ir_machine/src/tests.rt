@@ -1,15 +1,16 @@
 // Runs of small modules built by hand, with the results that a reader gets by walking through them.
 ghost use Rattle.std.specs.Prelude.{◌≡◌, IfOk};
 ghost use Rattle.ir_tree.specs.declared.types.Operand.TheVariants.{Local};
-ghost use Rattle.ir_model.specs.Examples.{block as block_of, print_call, returning, entry_block, low_block, declared_print as print_function, limited as limited_module};
+ghost use Rattle.ir_tree.specs.Blocks.{block_with as block_of};
+ghost use Rattle.ir_model.specs.Examples.{print_call, returning, entry_block, low_block, declared_print as print_function, limited as limited_module};
 
-use crate::{resolve_module, run_call};
+use crate::program::resolve_module;
+use crate::run_call;
 use ir_model::{Call, CallResult, End, QuietProbe};
 use ir_tree::{
-    BinOp, Block, Few, Flags, Function, Instr, Module, Name, Operand, Pred, Ret, Seq, Term, Ty,
+    BinOp, Block, Flags, Function, Instr, Module, Name, Operand, Pred, Ret, Seq, Term, Ty,
 };
 use pgo_base::NoMemory;
-use smallvec::SmallVec;
 use std::alloc::Global;
 use std::test::Fail;
 
@@ -68,13 +69,13 @@ fn entry(alloc: Global) -> Result<Block, NoMemory>
 pub fn print_of(alloc: Global, text: &str) -> Result<Instr, NoMemory>
     ensures { IfOk result (λ i. i ≡ print_call text.now) }
 {
-    let mut args = SmallVec::new(alloc);
+    let mut args = Vec::new(alloc);
     args.push((Ty::I64, local(alloc, text)?))?;
     Ok(Instr::Call {
         dest: None,
         ret: Ret::Void,
         callee: Operand::Global(name(alloc, "print_i64")?),
-        args: Few::of(args),
+        args: Seq::of(args),
         prof: None,
     })
 }
@@ -139,6 +140,7 @@ fn limited(alloc: Global) -> Result<Module, NoMemory>
     })
 }
 
+#[tactic(auto, unfolding(ir_tree::specs::Functions::is_profile_name))]
 fn run_limited(alloc: Global, n: u64, steps: u64) -> Result<CallResult, NoMemory> {
     let module = limited(alloc)?;
     let code = resolve_module(alloc, &module)?;

@@ -1,6 +1,6 @@
 // The run of a call, with the walks of every edge counted.
 ghost use Rattle.std.specs.Prelude.{◌≡◌, ℕ, ◌+◌, ◌^◌, ◌<◌, ◌≤◌, Option, [], length, get_or, IfOk, OnOk};
-ghost use Rattle.ir_model.specs.Machine.{run, shown_of};
+ghost use Rattle.spec_machines.specs.Machine.{run, shown_of};
 ghost use Rattle.ir_model.specs.Run.{run_of, result_of, IsValidCall};
 ghost use Rattle.ir_model.specs.Log.{traversals};
 ghost use Rattle.ir_machine.specs.Steps.{first_stage, code_step, result_from, ways};
@@ -8,13 +8,11 @@ ghost use Rattle.ir_machine.specs.Counts.{raised, counted};
 ghost use Rattle.ir_machine.specs.Slots.{edges_of_all, slot_of, HasEdge};
 
 use crate::code::FunctionCode;
-use crate::machine::Machine;
 use crate::program::Code;
-use crate::run::machine_at;
+use crate::run::run_function;
 use crate::slots::FunctionSlots;
-use crate::turns::{count, trace_on};
+use crate::turns::count;
 use ir_model::{Call, CallResult};
-use ir_tree::Seq;
 use pgo_base::NoMemory;
 use std::alloc::Global;
 
@@ -30,21 +28,15 @@ fn trace_function(
     ensures result { IfOk result (λ r. r ≡ result_from [] (run (code_step function.now.blocks) steps (first_stage function.now args.now))) }
     ensures counts { OnOk result (counts.new ≡ counted slots.now.blocks (raised counts.old slots.now.entry) (ways (shown_of (run (code_step function.now.blocks) steps (first_stage function.now args.now))))) }
 {
-    let mut machine = machine_at(alloc, function, args)?;
     count(counts, slots.entry as usize);
-    let starts = slots.blocks.as_slice();
-    let end = trace_on(
-        function.blocks.as_slice(),
-        starts,
-        &mut machine,
+    run_function(
+        alloc,
+        function,
+        slots.blocks.as_slice(),
+        args,
         steps,
         counts,
-    )?;
-    let Machine { printed, .. } = machine;
-    Ok(CallResult {
-        printed: Seq::of(printed),
-        end,
-    })
+    )
 }
 
 /// Runs a call as `run_call` does, and raises the count of each edge, at its slot, by the number of

@@ -1,6 +1,6 @@
 // Steps in a row, and the walks that are counted on the way.
 ghost use Rattle.std.specs.Prelude.{◌≡◌, slice_get, IfOk, OnOk};
-ghost use Rattle.ir_model.specs.Machine.{run, shown_of};
+ghost use Rattle.spec_machines.specs.Machine.{run, shown_of};
 ghost use Rattle.ir_machine.specs.Steps.{stage_of, code_step, result_from, turn_end, turn_ways, ways};
 ghost use Rattle.ir_machine.specs.Counts.{raised, raised_way, counted};
 
@@ -18,19 +18,6 @@ fn end_of(turn: Turn) -> Option<End>
         Turn::Returns { value, .. } => Some(End::Returned(value)),
         Turn::Traps(kind) => Some(End::Trapped(kind)),
     }
-}
-
-/// Takes at most `steps` steps.
-pub fn run_on(blocks: &[BlockCode], machine: &mut Machine, steps: u64) -> Result<End, NoMemory>
-    ensures { IfOk result (λ end. record { printed = machine.new.printed.items; end = end } ≡ result_from machine.old.printed.items (run (code_step blocks.now) steps (stage_of machine.old))) }
-{
-    for _turn in 0..steps {
-        match end_of(step(blocks, machine)?) {
-            Some(end) => return Ok(end),
-            None => {}
-        }
-    }
-    Ok(End::StepsSpent)
 }
 
 /// Raises the count at a slot, which stays as it is at the highest number.
@@ -65,7 +52,7 @@ fn count_turn(starts: &[u32], counts: &mut [u64], turn: Turn)
 }
 
 /// Takes at most `steps` steps, and counts what they walk.
-pub fn trace_on(
+pub fn run_on(
     blocks: &[BlockCode],
     starts: &[u32],
     machine: &mut Machine,

@@ -4,7 +4,9 @@ use Rattle.std.proofs.Common.{◌≡◌, ℕ, zero, suc, ◌+◌, ◌==◌, Bool
 use Rattle.std.specs.Prelude.{◌&&◌, nat_le, slice_get, option_and_then}
 use Rattle.std.specs.List.{count_by}
 use Rattle.std.proofs.lemmas.List.Sums.{sum_by-cons, sum_by-append}
+use Rattle.ir_tree.specs.Functions.{function_at}
 use Rattle.ir_tree.specs.Names.{same}
+use Rattle.ir_tree.specs.Phis.{behind_phis}
 use Rattle.ir_tree.specs.Successors.{successors}
 use Rattle.ir_tree.specs.declared.types.Instr.{Instr}
 use Rattle.ir_tree.specs.declared.types.Term.{Term}
@@ -14,11 +16,11 @@ use Rattle.ir_tree.specs.declared.types.Function.{Function}
 use Rattle.ir_tree.specs.declared.types.Module.{Module}
 use Rattle.ir_model.specs.declared.result.TrapKind.TheVariants as trap
 use Rattle.ir_model.specs.declared.result.Call.{Call}
-use Rattle.ir_model.specs.Machine.{Goes, Stops, Ran, Open, Ended, shown_first, go_on, run}
+use Rattle.spec_machines.specs.Machine.{Goes, Stops, Ran, Open, Ended, shown_first, go_on, run}
 use Rattle.ir_model.specs.State.{Frame, State, Shown, Printed, Entered, Walked, Stop, Returns, Traps, arguments}
-use Rattle.ir_model.specs.Step.{Step, fails, goes_to, past, entering, resumed, phis_in, Deed, Gives, Calls, Fails, deed, choice, line_of, output_most, is_print, prints_first, acted, walked, returned, left, done, done_in, stepped, sought, function_at, body, step, value_of, returned_value}
+use Rattle.ir_model.specs.Step.{Step, fails, goes_to, past, entering, resumed, phis_in, Deed, Gives, Calls, Fails, deed, choice, line_of, output_most, is_print, prints_first, acted, walked, returned, left, done, done_in, stepped, sought, step, value_of, returned_value}
 use Rattle.ir_model.specs.Run.{run_of, entered, begun}
-use Rattle.ir_model.specs.Log.{Walk, Into, Out, log, log_of, first_label, successor, target, same_block, comes_from, leads_to, IsFlow, HasReturned}
+use Rattle.ir_model.specs.Log.{Walk, Into, Out, log, log_of, first_label, successor, target, same_block, comes_from, leads_to, AreBalanced, HasReturned}
 
 log-append : (xs ys : List Shown) → log (xs ++ ys) ≡ log xs ++ log ys
 log-append [] ys = refl
@@ -201,7 +203,7 @@ module _ (m : Module) (k : ℕ) where
 
     done_in_fair : (fr : Frame) (rest : List Frame) (out : ℕ) (o : Option Block) → sought m fr.function fr.block ≡ o → Fair (fr ∷ rest) (done_in m fr rest out o)
     done_in_fair fr rest out None e = tt
-    done_in_fair fr rest out (Some c) e = done_fair fr rest out c e (drop fr.place (body c.instrs))
+    done_in_fair fr rest out (Some c) e = done_fair fr rest out c e (drop fr.place (behind_phis c.instrs))
 
     stepped_fair : (frames : List Frame) (out : ℕ) → Fair frames (stepped m frames out)
     stepped_fair [] out = tt
@@ -247,5 +249,5 @@ module _ (m : Module) (k : ℕ) where
   equal_of None ws e = omega (arith, e)
   equal_of (Some l) ws e = omega (arith, e)
 
-pub call_flow : (m : Module) (c : Call) (n : ℕ) → HasReturned (run_of m c n) → IsFlow m (log_of (run_of m c n))
+pub call_flow : (m : Module) (c : Call) (n : ℕ) → HasReturned (run_of m c n) → AreBalanced m (log_of (run_of m c n))
 call_flow m c n h = λ k b. equal_of m k b (log_of (run_of m c n)) (balanced_call m k b c n h)

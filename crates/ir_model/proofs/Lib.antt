@@ -1,3 +1,3 @@
-pub mod Runs
 pub mod Output
 pub mod Flow
+pub mod Worked

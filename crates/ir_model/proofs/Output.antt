@@ -8,9 +8,10 @@ use Rattle.ir_tree.specs.declared.types.Block.{Block}
 use Rattle.ir_tree.specs.declared.types.Function.{Function}
 use Rattle.ir_tree.specs.declared.types.Module.{Module}
 use Rattle.ir_model.specs.declared.result.TrapKind.TheVariants as trap
-use Rattle.ir_model.specs.Machine.{Goes, Stops, Ran, Open, Ended, shown_first, shown_of, go_on, run}
+use Rattle.spec_machines.specs.Machine.{Goes, Stops, Ran, Open, Ended, shown_first, shown_of, go_on, run}
 use Rattle.ir_model.specs.State.{Frame, State, Shown, Printed, Entered, Walked, printed, Stop}
-use Rattle.ir_model.specs.Step.{Step, fails, goes_to, past, Deed, Gives, Calls, Fails, deed, Choice, Takes, Leaves, Breaks, choice, line_of, output_most, is_print, prints_first, acted, walked, returned, left, done, done_in, stepped, sought, body, step}
+use Rattle.ir_model.specs.Step.{Step, fails, goes_to, past, Deed, Gives, Calls, Fails, deed, Choice, Takes, Leaves, Breaks, choice, line_of, output_most, is_print, prints_first, acted, walked, returned, left, done, done_in, stepped, sought, step}
+use Rattle.ir_tree.specs.Phis.{behind_phis}
 use Rattle.ir_tree.specs.Successors.{successors}
 use Rattle.ir_model.specs.Run.{entered, begun}
 
@@ -70,7 +71,7 @@ module _ (m : Module) (fr : Frame) (rest : List Frame) (out : ℕ) (h : out ≤ 
 
   done_in_counts : (o : Option Block) → Counts out (done_in m fr rest out o)
   done_in_counts None = refl
-  done_in_counts (Some b) = done_counts (drop fr.place (body b.instrs)) b.term
+  done_in_counts (Some b) = done_counts (drop fr.place (behind_phis b.instrs)) b.term
 
 stepped_counts : (m : Module) (frames : List Frame) (out : ℕ) → out ≤ output_most → Counts out (stepped m frames out)
 stepped_counts m [] out h = refl

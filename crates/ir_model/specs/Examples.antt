@@ -12,10 +12,7 @@
 --     high:
 --       ret i64 %n
 --     }
-use Rattle.std.specs.Prelude.{◌≡◌, ℕ, List, [], ◌∷◌, Some, None, false, refl, codes}
-use Rattle.std.specs.Prelude.{◌-◌, ◌^◌}
-use Rattle.std.proofs.Common.{lit<}
-use Rattle.std.proofs.lemmas.Fmt.{decimal_digit}
+use Rattle.std.specs.Prelude.{ℕ, List, [], ◌∷◌, Some, None, false, codes}
 use Rattle.ir_tree.specs.declared.types.Ty.TheVariants.{I64}
 use Rattle.ir_tree.specs.declared.types.Ret.TheVariants as ret
 use Rattle.ir_tree.specs.declared.types.BinOp.TheVariants as binary
@@ -25,17 +22,12 @@ use Rattle.ir_tree.specs.declared.types.Instr.{Instr}
 use Rattle.ir_tree.specs.declared.types.Instr.TheVariants.{Binary, Compare, Call}
 use Rattle.ir_tree.specs.declared.types.Term.{Term}
 use Rattle.ir_tree.specs.declared.types.Term.TheVariants.{CondBr, Ret}
+use Rattle.ir_tree.specs.Blocks.{block_with}
 use Rattle.ir_tree.specs.declared.types.Block.{Block}
 use Rattle.ir_tree.specs.declared.types.Function.{Function}
 use Rattle.ir_tree.specs.declared.types.Module.{Module}
-use Rattle.ir_model.specs.declared.result.End.TheVariants as end
 use Rattle.ir_model.specs.declared.result.CallResult.{CallResult}
-use Rattle.ir_model.specs.Machine.{shown_of}
-use Rattle.ir_model.specs.State.{Entered, Walked}
 use Rattle.ir_model.specs.Run.{run_of, result_of}
-
-abbrev pub block : List ℕ → List Instr → Term → Block
-block label instrs term = record { label = label; instrs = instrs; term = term }
 
 abbrev pub print_call : List ℕ → Instr
 print_call x = Call None ret.Void (Global (codes "print_i64")) ((I64, Local x) ∷ []) None
@@ -45,17 +37,17 @@ returning x = Ret (Some (I64, Local x))
 
 abbrev pub entry_block : Block
 entry_block =
-    block (codes "entry") (Compare (codes "c") pred.Slt I64 (Local (codes "n")) (Int 10) ∷ []) (CondBr (Local (codes "c")) (codes "low") (codes "high") None)
+    block_with (codes "entry") (Compare (codes "c") pred.Slt I64 (Local (codes "n")) (Int 10) ∷ []) (CondBr (Local (codes "c")) (codes "low") (codes "high") None)
 
 abbrev pub low_block : Block
 low_block =
-    block (codes "low")
+    block_with (codes "low")
     (Binary (codes "a") binary.Add (record { nuw = false; nsw = false; exact = false }) I64 (Local (codes "n")) (Int 1)
     ∷ print_call (codes "a") ∷ [])
     (returning (codes "a"))
 
 abbrev pub high_block : Block
-high_block = block (codes "high") [] (returning (codes "n"))
+high_block = block_with (codes "high") [] (returning (codes "n"))
 
 abbrev pub declared_print : Function
 declared_print =
@@ -69,21 +61,3 @@ limited = record {
 
 abbrev pub result_after : ℕ → ℕ → CallResult
 result_after n steps = result_of (run_of limited (record { function = 1; args = n ∷ [] }) steps)
-
--- from 3 it prints 4 and returns 4, in five steps and not in four
-pub from_three : result_after 3 5 ≡ record { printed = codes "4\n"; end = end.Returned (Some 4) }
-from_three = rw (decimal_digit 4 (lit< tt)) refl
-
-pub from_three_so_far : result_after 3 4 ≡ record { printed = codes "4\n"; end = end.StepsSpent }
-from_three_so_far = rw (decimal_digit 4 (lit< tt)) refl
-
--- from 12 it prints nothing
-pub from_twelve : result_after 12 3 ≡ record { printed = []; end = end.Returned (Some 12) }
-from_twelve = refl
-
--- the highest number of 64 bits reads as -1, which is below 10
-pub from_minus_one : result_after (2 ^ 64 - 1) 3 ≡ record { printed = []; end = end.StepsSpent }
-from_minus_one = refl
-
-pub walks : shown_of (run_of limited (record { function = 1; args = 12 ∷ [] }) 3) ≡ Entered 1 ∷ Walked 1 (codes "entry") 1 ∷ Walked 1 (codes "high") 0 ∷ []
-walks = refl

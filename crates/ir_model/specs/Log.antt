@@ -1,15 +1,17 @@
 -- The edges that a run walks, how often it walks one, and when as many walks lead to each block as leave it.
 use Rattle.std.specs.Prelude.{◌≡◌, ℕ, ◌+◌, ◌==◌, List, [], ◌∷◌, Option, Some, None, Bool, true, false, ◌&&◌, slice_get, option_and_then}
-use Rattle.std.specs.List.{count_by, position_or_len}
+use Rattle.std.specs.List.{count_by}
+use Rattle.ir_tree.specs.Blocks.{block_place}
+use Rattle.ir_tree.specs.Functions.{function_at}
 use Rattle.ir_tree.specs.Names.{same}
 use Rattle.ir_tree.specs.Successors.{successors}
 use Rattle.ir_tree.specs.declared.types.Block.{Block}
 use Rattle.ir_tree.specs.declared.types.Function.{Function}
 use Rattle.ir_tree.specs.declared.types.Module.{Module}
 use Rattle.ir_model.specs.declared.result.Call.{Call}
-use Rattle.ir_model.specs.Machine.{Ran, Open, Ended, shown_of}
+use Rattle.spec_machines.specs.Machine.{Ran, Open, Ended, shown_of}
 use Rattle.ir_model.specs.State.{Shown, Printed, Entered, Walked, Stop, Returns, Traps}
-use Rattle.ir_model.specs.Step.{function_at, sought}
+use Rattle.ir_model.specs.Step.{sought}
 use Rattle.ir_model.specs.Run.{run_of}
 
 -- One walk: into a function, or out of the block of this label by the successor at this position. A return goes out by
@@ -28,19 +30,22 @@ log (Walked k l p ∷ xs) = Out k l p ∷ log xs
 abbrev pub log_of : Ran Shown Stop → List Walk
 log_of ran = log (shown_of ran)
 
--- the place among a function's blocks at which this label stands first
-abbrev pub block_place : Option Function → List ℕ → ℕ
-block_place None l = 0
-block_place (Some f) l = position_or_len (λ (b : Block). same l b.label) f.blocks
+-- the number of the block of this label in function k
+abbrev pub sought_place : Module → ℕ → List ℕ → Option ℕ
+sought_place m k l = option_and_then (λ (f : Function). block_place f.blocks l) (function_at m k)
+
+abbrev pub is_at : ℕ → Option ℕ → Bool
+is_at place None = false
+is_at place (Some b) = b == place
 
 -- Is this a walk of the edge? The edge is the one that enters function k, where no block is named, or the one out of the
--- block at this place in its text by the successor at this position
+-- block of this number by the successor at this position
 abbrev pub is_walk_of : Module → ℕ → Option ℕ → ℕ → Walk → Bool
 is_walk_of m k None position (Into f) = f == k
 is_walk_of m k None position (Out f l p) = false
 is_walk_of m k (Some place) position (Into f) = false
 is_walk_of m k (Some place) position (Out f l p) =
-    f == k && block_place (function_at m k) l == place && p == position
+    f == k && is_at place (sought_place m k l) && p == position
 
 -- How often a call's run of at most n steps walks the edge
 abbrev pub traversals : Module → ℕ → Option ℕ → ℕ → Call → ℕ → ℕ
@@ -89,8 +94,8 @@ leads_to m k block w = function_of w == k && same_block block (target m w)
 
 -- Walks are a flow: in each function as many lead to a block as come from it, and as many lead out of the function as
 -- into it
-abbrev pub IsFlow : Module → List Walk → Type 0
-IsFlow m ws = (k : ℕ) (block : Option (List ℕ)) → count_by (leads_to m k block) ws ≡ count_by (comes_from k block) ws
+abbrev pub AreBalanced : Module → List Walk → Type 0
+AreBalanced m ws = (k : ℕ) (block : Option (List ℕ)) → count_by (leads_to m k block) ws ≡ count_by (comes_from k block) ws
 
 -- the call returned
 abbrev pub HasReturned : Ran Shown Stop → Type 0

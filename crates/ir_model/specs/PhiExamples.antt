@@ -17,9 +17,7 @@
 --     }
 --
 -- in which `a` and `b` exchange their values each time that the block `turn` is entered from itself.
-use Rattle.std.specs.Prelude.{◌≡◌, ℕ, List, [], ◌∷◌, Some, None, false, refl, codes}
-use Rattle.std.proofs.Common.{lit<}
-use Rattle.std.proofs.lemmas.Fmt.{decimal_digit}
+use Rattle.std.specs.Prelude.{ℕ, List, [], ◌∷◌, None, false, codes}
 use Rattle.ir_tree.specs.declared.types.Ty.TheVariants.{I64}
 use Rattle.ir_tree.specs.declared.types.Ret.TheVariants as ret
 use Rattle.ir_tree.specs.declared.types.BinOp.TheVariants as binary
@@ -31,12 +29,10 @@ use Rattle.ir_tree.specs.declared.types.Term.TheVariants.{Br, CondBr}
 use Rattle.ir_tree.specs.declared.types.Block.{Block}
 use Rattle.ir_tree.specs.declared.types.Module.{Module}
 use Rattle.ir_model.specs.declared.result.Call.{Call}
-use Rattle.ir_model.specs.declared.result.End.TheVariants as end
 use Rattle.ir_model.specs.declared.result.CallResult.{CallResult}
-use Rattle.ir_model.specs.State.{held}
-use Rattle.ir_model.specs.Step.{phis, with_phis}
 use Rattle.ir_model.specs.Run.{run_of, result_of}
-use Rattle.ir_model.specs.Examples.{block, print_call, returning, declared_print}
+use Rattle.ir_tree.specs.Blocks.{block_with}
+use Rattle.ir_model.specs.Examples.{print_call, returning, declared_print}
 
 -- a phi with a number on one edge and a register on another
 abbrev pub phi_two : List ℕ → ℕ → List ℕ → List ℕ → List ℕ → Instr
@@ -54,11 +50,11 @@ abbrev pub less : List ℕ → Instr
 less left = Compare (codes "c") pred.Slt I64 (Local left) (Local (codes "n"))
 
 abbrev pub start_block : Block
-start_block = block (codes "entry") [] (Br (codes "turn"))
+start_block = block_with (codes "entry") [] (Br (codes "turn"))
 
 abbrev pub turn_block : Block
 turn_block =
-    block (codes "turn")
+    block_with (codes "turn")
     (phi_two (codes "a") 1 (codes "entry") (codes "b") (codes "turn")
     ∷ phi_two (codes "b") 2 (codes "entry") (codes "a") (codes "turn")
     ∷ phi_two (codes "i") 0 (codes "entry") (codes "j") (codes "turn")
@@ -66,7 +62,7 @@ turn_block =
     (CondBr (Local (codes "c")) (codes "turn") (codes "done") None)
 
 abbrev pub done_block : Block
-done_block = block (codes "done") (print_call (codes "a") ∷ []) (returning (codes "b"))
+done_block = block_with (codes "done") (print_call (codes "a") ∷ []) (returning (codes "b"))
 
 abbrev pub swapping : Module
 swapping = record {
@@ -74,26 +70,8 @@ swapping = record {
   functions = declared_print ∷ record { name = codes "swap"; ret = ret.Value I64; params = (I64, codes "n") ∷ []; blocks = start_block ∷ turn_block ∷ done_block ∷ []; prof = None } ∷ [];
 }
 
--- from (1, 2) one turn makes (2, 1): both phis read the values before
-pub exchanged_a : held (with_phis ((codes "a", 1) ∷ (codes "b", 2) ∷ []) (codes "turn") (phis turn_block.instrs) ((codes "a", 1) ∷ (codes "b", 2) ∷ [])) (codes "a") ≡ 2
-exchanged_a = refl
-
-pub exchanged_b : held (with_phis ((codes "a", 1) ∷ (codes "b", 2) ∷ []) (codes "turn") (phis turn_block.instrs) ((codes "a", 1) ∷ (codes "b", 2) ∷ [])) (codes "b") ≡ 1
-exchanged_b = refl
-
 abbrev pub swap_call : ℕ → Call
 swap_call n = record { function = 1; args = n ∷ [] }
 
 abbrev pub swap_result : ℕ → ℕ → CallResult
 swap_result n steps = result_of (run_of swapping (swap_call n) steps)
-
--- with one round the values are as they came in, with two they are exchanged. A phi costs no step: one round takes a
--- branch, three steps in `turn` and two in `done`
-pub one_round : swap_result 1 6 ≡ record { printed = codes "1\n"; end = end.Returned (Some 2) }
-one_round = rw (decimal_digit 1 (lit< tt)) refl
-
-pub one_round_so_far : swap_result 1 5 ≡ record { printed = codes "1\n"; end = end.StepsSpent }
-one_round_so_far = rw (decimal_digit 1 (lit< tt)) refl
-
-pub two_rounds : swap_result 2 9 ≡ record { printed = codes "2\n"; end = end.Returned (Some 1) }
-two_rounds = rw (decimal_digit 2 (lit< tt)) refl

@@ -1,7 +1,8 @@
 -- The run of a call, what of it is a result, and which calls are valid.
-use Rattle.std.specs.Prelude.{ℕ, ◌^◌, ◌<◌, ◌≤◌, List, [], ◌∷◌, Option, Some, None, length, All}
+use Rattle.std.specs.Prelude.{◌≡◌, ℕ, ◌<◌, ◌≤◌, true, List, [], ◌∷◌, Option, Some, None, length, All}
+use Rattle.ir_tree.specs.Functions.{function_at}
+use Rattle.ir_tree.specs.Types.{is_integer_of}
 use Rattle.ir_tree.specs.declared.types.Ty.{Ty}
-use Rattle.ir_tree.specs.declared.types.Ty.TheVariants.{I1, I8, I16, I32, I64, Ptr}
 use Rattle.ir_tree.specs.declared.types.Block.{Block}
 use Rattle.ir_tree.specs.declared.types.Function.{Function}
 use Rattle.ir_tree.specs.declared.types.Module.{Module}
@@ -10,9 +11,9 @@ use Rattle.ir_model.specs.declared.result.End.TheVariants as end
 use Rattle.ir_model.specs.declared.result.CallResult.{CallResult}
 use Rattle.ir_model.specs.declared.result.Call.{Call}
 use Rattle.ir_model.specs.declared.probe.Event.{Event}
-use Rattle.ir_model.specs.Machine.{Ran, Open, Ended, go_on, run, shown_of}
+use Rattle.spec_machines.specs.Machine.{Ran, Open, Ended, go_on, run, shown_of}
 use Rattle.ir_model.specs.State.{arguments, Shown, Printed, Entered, Walked, printed, Stop, Returns, Traps}
-use Rattle.ir_model.specs.Step.{Step, fails, goes_to, function_at, step}
+use Rattle.ir_model.specs.Step.{Step, fails, goes_to, step}
 
 -- the state in which function k is entered with these arguments
 abbrev pub entered : ℕ → List ℕ → Function → List Block → Step
@@ -45,21 +46,12 @@ marks (Walked k l p ∷ xs) = marks xs
 abbrev pub marks_of : Ran Shown Stop → List Event
 marks_of ran = marks (shown_of ran)
 
--- is `value` an integer of this type?
-abbrev pub FitsType : Ty → ℕ → Type 0
-FitsType I1 value = value < 2
-FitsType I8 value = value < 2 ^ 8
-FitsType I16 value = value < 2 ^ 16
-FitsType I32 value = value < 2 ^ 32
-FitsType I64 value = value < 2 ^ 64
-FitsType Ptr value = ⊥
-
 -- One argument for each parameter, each an integer of the parameter's type
 abbrev pub FitsAll : List (Ty × List ℕ) → List ℕ → Type 0
 FitsAll [] [] = Unit {0}
 FitsAll [] (v ∷ vs) = ⊥
 FitsAll (p ∷ ps) [] = ⊥
-FitsAll (p ∷ ps) (v ∷ vs) = FitsType p.0 v × FitsAll ps vs
+FitsAll (p ∷ ps) (v ∷ vs) = (is_integer_of p.0 v ≡ true) × FitsAll ps vs
 
 abbrev pub FitsFunction : Option Function → List ℕ → Type 0
 FitsFunction None values = ⊥

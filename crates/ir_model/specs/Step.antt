@@ -3,9 +3,13 @@
 -- A module that the checker accepts has the instructions and operands named here alone, its labels and functions are
 -- found, its calls print, and its phis stand in front of their blocks and have an entry for each predecessor. Where
 -- another module has something else, the step traps as `unreachable`; a phi without an entry gives 0.
-use Rattle.std.specs.Prelude.{ℕ, ◌+◌, ◌==◌, nat_le, List, [], ◌∷◌, ◌++◌, Option, Some, None, Result, Ok, Err, Bool, false, ◌&&◌, if◌then◌else◌, length, map, drop, find, slice_get, option_and_then, codes}
+use Rattle.std.specs.Prelude.{ℕ, ◌+◌, ◌==◌, nat_le, List, [], ◌∷◌, ◌++◌, Option, Some, None, Result, Ok, Err, Bool, false, ◌&&◌, if◌then◌else◌, length, map, drop, slice_get, option_and_then}
 use Rattle.std.specs.Fmt.{signed_decimal}
+use Rattle.ir_tree.specs.Blocks.{block_named}
+use Rattle.ir_tree.specs.Functions.{function_at, function_named, is_declared, print_name}
 use Rattle.ir_tree.specs.Names.{same}
+use Rattle.ir_tree.specs.Operands.{Entries, result_name}
+use Rattle.ir_tree.specs.Phis.{entries_of, leading_phis, behind_phis, value_for}
 use Rattle.ir_tree.specs.Successors.{successors}
 use Rattle.ir_value.specs.Integer.{signed_of}
 use Rattle.ir_value.specs.Operators.{binary_of, compare_of}
@@ -24,7 +28,7 @@ use Rattle.ir_tree.specs.declared.types.Pred.TheVariants as pred
 use Rattle.ir_tree.specs.declared.types.Operand.{Operand}
 use Rattle.ir_tree.specs.declared.types.Operand.TheVariants.{Int, Null, Local, Global}
 use Rattle.ir_tree.specs.declared.types.Instr.{Instr}
-use Rattle.ir_tree.specs.declared.types.Instr.TheVariants.{Binary, Compare, Phi, Call}
+use Rattle.ir_tree.specs.declared.types.Instr.TheVariants.{Binary, Compare, Convert, Freeze, Select, Phi, Alloca, Load, Store, Gep, Call, Count}
 use Rattle.ir_tree.specs.declared.types.Term.{Term}
 use Rattle.ir_tree.specs.declared.types.Term.TheVariants.{Br, CondBr, Switch, Ret, Unreachable}
 use Rattle.ir_tree.specs.declared.types.Block.{Block}
@@ -32,7 +36,7 @@ use Rattle.ir_tree.specs.declared.types.Function.{Function}
 use Rattle.ir_tree.specs.declared.types.Module.{Module}
 use Rattle.ir_model.specs.declared.result.TrapKind.{TrapKind}
 use Rattle.ir_model.specs.declared.result.TrapKind.TheVariants as trap
-use Rattle.ir_model.specs.Machine.{Next, Goes, Stops}
+use Rattle.spec_machines.specs.Machine.{Next, Goes, Stops}
 use Rattle.ir_model.specs.State.{Registers, held, Frame, State, Shown, Printed, Walked, Stop, Returns, Traps}
 
 -- the operators and predicates of `ir_value`, by their names
@@ -69,48 +73,26 @@ value_of rs Null = 0
 value_of rs (Local x) = held rs x
 value_of rs (Global x) = 0
 
--- A phi: the register of its result, and for each predecessor's label the value that it takes on the edge from there
-abbrev pub Entries : Type 0
-Entries = List (Operand × List ℕ)
-
-abbrev pub Join : Type 0
-Join = List ℕ × Entries
-
-abbrev pub phi_of : Instr → Option Join
-phi_of (Phi into ty entries) = Some (into, entries)
-phi_of _ = None
-
--- the phis that stand in front of a list of instructions, and what stands behind them
-abbrev pub front_phis : Option Join → List Join → List Join
-front_phis None later = []
-front_phis (Some p) later = p ∷ later
-
-abbrev pub phis : List Instr → List Join
-phis [] = []
-phis (i ∷ is) = front_phis (phi_of i) (phis is)
-
-abbrev pub behind_phis : Option Join → List Instr → List Instr → List Instr
-behind_phis None here later = here
-behind_phis (Some p) here later = later
-
-abbrev pub body : List Instr → List Instr
-body [] = []
-body (i ∷ is) = behind_phis (phi_of i) (i ∷ is) (body is)
-
--- the first entry for a label
-abbrev pub first_for : List ℕ → Entries → Option Operand
-first_for l [] = None
-first_for l (e ∷ es) = if same l e.1 then Some e.0 else first_for l es
-
 -- the value that a phi takes, and 0 where it has no entry for the label
 abbrev pub taken : Registers → Option Operand → ℕ
 taken rs None = 0
 taken rs (Some o) = value_of rs o
 
+-- the value of a phi with these entries, on the edge from the block of a label
+abbrev pub phi_value : Registers → List ℕ → Option Entries → ℕ
+phi_value rs from None = 0
+phi_value rs from (Some es) = taken rs (value_for from es)
+
+-- the registers, with a value for the result of this name
+abbrev pub with_result : Option (List ℕ) → ℕ → Registers → Registers
+with_result None value rs = rs
+with_result (Some x) value rs = (x, value) ∷ rs
+
 -- These registers after phis that all read the registers before; of two results of one name the later counts
-abbrev pub with_phis : Registers → List ℕ → List Join → Registers → Registers
+abbrev pub with_phis : Registers → List ℕ → List Instr → Registers → Registers
 with_phis before from [] rs = rs
-with_phis before from (p ∷ ps) rs = with_phis before from ps ((p.0, taken before (first_for from p.1)) ∷ rs)
+with_phis before from (i ∷ is) rs =
+    with_phis before from is (with_result (result_name i) (phi_value before from (entries_of i)) rs)
 
 -- What an instruction does: it gives a value to a register, calls a function with values, or fails
 pub data Deed : Type 0 where
@@ -144,8 +126,16 @@ deed rs (Binary into o flags ty left right) =
     at_i64 ty (computed into (binary_of (operator o) 64 (value_of rs left) (value_of rs right)))
 deed rs (Compare into p ty left right) =
     at_i64 ty (Gives into (if compare_of (comparison p) 64 (value_of rs left) (value_of rs right) then 1 else 0))
+deed rs (Convert into o flags from value to) = Fails trap.Unreachable
+deed rs (Freeze into ty value) = Fails trap.Unreachable
+deed rs (Select into c ty first second prof) = Fails trap.Unreachable
+deed rs (Phi into ty entries) = Fails trap.Unreachable
+deed rs (Alloca into mem) = Fails trap.Unreachable
+deed rs (Load into ty address) = Fails trap.Unreachable
+deed rs (Store ty value address) = Fails trap.Unreachable
+deed rs (Gep into inbounds mem address indices) = Fails trap.Unreachable
 deed rs (Call into ret callee values prof) = call_of callee (map (λ v. value_of rs v.1) values)
-deed rs _ = Fails trap.Unreachable
+deed rs (Count symbol size index step) = Fails trap.Unreachable
 
 -- What a terminator does: it takes the successor at a position, returns, or fails
 pub data Choice : Type 0 where
@@ -165,27 +155,22 @@ choice rs (Switch ty v default cases prof) = Breaks trap.Unreachable
 choice rs (Ret v) = Leaves (returned_value rs v)
 choice rs Unreachable = Breaks trap.Unreachable
 
-abbrev pub function_at : Module → ℕ → Option Function
-function_at m k = slice_get m.functions k
-
--- the first function, or block, of this name
-abbrev pub function_named : Module → List ℕ → Option Function
-function_named m x = find (λ (f : Function). same x f.name) m.functions
-
-abbrev pub block_named : List Block → List ℕ → Option Block
-block_named bs l = find (λ (b : Block). same l b.label) bs
-
 -- the block of this label in function k
 abbrev pub sought : Module → ℕ → List ℕ → Option Block
 sought m k l = option_and_then (λ (f : Function). block_named f.blocks l) (function_at m k)
 
-abbrev pub is_without_blocks : Option Function → Bool
-is_without_blocks None = false
-is_without_blocks (Some f) = length f.blocks == 0
+-- is a function there, and declared?
+abbrev pub declares : Option Function → Bool
+declares None = false
+declares (Some f) = is_declared f
+
+-- does the module declare the function that prints?
+abbrev pub declares_print : Module → Bool
+declares_print m = declares (function_named m.functions print_name)
 
 -- does this name the declared function that prints?
 abbrev pub is_print : Module → List ℕ → Bool
-is_print m x = same (codes "print_i64") x && is_without_blocks (function_named m (codes "print_i64"))
+is_print m x = same print_name x && declares_print m
 
 -- the most bytes that one call prints
 abbrev pub output_most : ℕ
@@ -205,15 +190,15 @@ abbrev pub goes_to : List Frame → ℕ → List Shown → Step
 goes_to frames output shown = Goes shown (record { frames = frames; output = output })
 
 -- the phis of a block, none where it is not found
-abbrev pub phis_in : Option Block → List Join
+abbrev pub phis_in : Option Block → List Instr
 phis_in None = []
-phis_in (Some b) = phis b.instrs
+phis_in (Some b) = leading_phis b.instrs
 
 -- the frame with one more instruction done, behind the phis of another block, and with one register assigned
 abbrev pub past : Frame → Frame
 past fr = record fr { place = fr.place + 1 }
 
-abbrev pub entering : Frame → List ℕ → List Join → Frame
+abbrev pub entering : Frame → List ℕ → List Instr → Frame
 entering fr l ps =
     record fr { block = l; place = 0; registers = with_phis fr.registers fr.block ps fr.registers }
 
@@ -266,7 +251,7 @@ done m fr rest output (i ∷ is) t = acted m fr rest output (deed fr.registers i
 
 abbrev pub done_in : Module → Frame → List Frame → ℕ → Option Block → Step
 done_in m fr rest output None = fails trap.Unreachable
-done_in m fr rest output (Some b) = done m fr rest output (drop fr.place (body b.instrs)) b.term
+done_in m fr rest output (Some b) = done m fr rest output (drop fr.place (behind_phis b.instrs)) b.term
 
 abbrev pub stepped : Module → List Frame → ℕ → Step
 stepped m [] output = fails trap.Unreachable

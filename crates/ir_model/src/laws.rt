@@ -2,11 +2,11 @@
 ghost use Rattle.std.specs.Prelude.{ℕ, ◌+◌, ◌≤◌, length};
 ghost use Rattle.ir_tree.specs.declared.types.Module.{Module};
 ghost use Rattle.ir_model.specs.declared.result.Call.{Call};
-ghost use Rattle.ir_model.specs.Machine.{Within, shown_of};
+ghost use Rattle.spec_machines.specs.Machine.{Within, shown_of};
 ghost use Rattle.ir_model.specs.State.{printed};
 ghost use Rattle.ir_model.specs.Step.{output_most};
 ghost use Rattle.ir_model.specs.Run.{run_of};
-ghost use Rattle.ir_model.specs.Log.{log_of, IsFlow, HasReturned};
+ghost use Rattle.ir_model.specs.Log.{log_of, AreBalanced, HasReturned};
 
 /// A run of more steps goes on from one of fewer: a call that ended stays as it ended, and one that
 /// is open has printed a first part of what it prints.
@@ -22,5 +22,5 @@ pub fn output_is_bounded()
 /// The walks of a call that returns are a flow: in each function as many walks lead to a block as come
 /// from it, and as many lead into the function as out of it.
 pub fn walks_are_a_flow()
-    ensures { (m : Module) (c : Call) (n : ℕ) → HasReturned (run_of m c n) → IsFlow m (log_of (run_of m c n)) }
+    ensures { (m : Module) (c : Call) (n : ℕ) → HasReturned (run_of m c n) → AreBalanced m (log_of (run_of m c n)) }
 {}

@@ -1,4 +1,4 @@
-pub mod Cuts
 pub mod Decimal
 pub mod Places
 pub mod Whole
+pub mod Loops

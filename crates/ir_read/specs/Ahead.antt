@@ -3,7 +3,7 @@ use Rattle.ir_lex.specs.Tokens.{Token}
 use Rattle.ir_lex.specs.Next.{Place}
 use Rattle.ir_read.specs.declared.item.Item.{Item}
 use Rattle.ir_read.specs.Items.{token_of}
-use Rattle.ir_read.specs.Cut.{tokens_of, is_whole}
+use Rattle.ir_lex.specs.Cut.{tokens_of, is_whole}
 
 -- the tokens that are left, up to the end or up to the first place where none is spelled, and whether they go up to the
 -- end

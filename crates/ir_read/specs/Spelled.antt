@@ -10,6 +10,10 @@ use Rattle.ir_read.specs.declared.error.ReadError.TheVariants.{Syntax, TextLimit
 abbrev pub SpellsText : List ℕ → Module → Type 0
 SpellsText text m = (ts : List Token) × (Lexes text ts × Spells ts m)
 
+-- a text spells one module at most
+abbrev pub OneModule : Type 0
+OneModule = (text : List ℕ) (m n : Module) → SpellsText text m → SpellsText text n → m ≡ n
+
 -- the most bytes that a text has
 abbrev pub most_bytes : ℕ
 most_bytes = 16777216

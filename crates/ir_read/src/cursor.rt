@@ -4,11 +4,11 @@ ghost use Rattle.std.specs.Prelude.{◌≡◌, ◌≤◌, [], ◌∷◌, length,
 ghost use Rattle.ir_grammar.specs.Grammar.{starts_instr};
 ghost use Rattle.ir_grammar.specs.Words.{first_is, any_left, is_word, is_sign, is_local, is_label};
 ghost use Rattle.ir_read.specs.Items.{token_of};
-ghost use Rattle.ir_read.specs.Cut.{tokens_of, is_whole};
+ghost use Rattle.ir_lex.specs.Cut.{tokens_of, is_whole};
 ghost use Rattle.ir_read.specs.Ahead.{behind, tokens_ahead, whole_ahead};
 
 use crate::item::{Item, item_of};
-use ir_lex::Tokens;
+use ir_lex::{Tokens, cut_is_spelled, tokens_are_cut};
 use std::marker::Model;
 
 /// The next token of a text and its place; none at the end of the text, or where no token is spelled.
@@ -24,6 +24,8 @@ fn look_ahead<'a>(tokens: &mut Tokens<'a>) -> Peeked<'a>
     ensures ahead { tokens_ahead result.item tokens.new ≡ tokens_of (behind tokens.old) }
     ensures whole { whole_ahead result.item result.broken tokens.new ≡ is_whole (behind tokens.old) }
 {
+    tokens_are_cut();
+    cut_is_spelled();
     match tokens.next() {
         Ok(Some(token)) => Peeked {
             item: Some(item_of(&token)),
@@ -71,6 +73,7 @@ impl<'a> Cursor<'a> {
         ensures tokens { result.tokens ≡ tokens_of text.now }
         ensures whole { result.whole ≡ is_whole text.now }
     {
+        tokens_are_cut();
         let mut tokens = Tokens::new(text);
         let next = look_ahead(&mut tokens);
         Cursor {

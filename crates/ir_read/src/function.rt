@@ -13,7 +13,7 @@ use crate::item::Item;
 use crate::operand::{return_type, value_type};
 use crate::stop::Stop;
 use crate::word::{local, sign, word};
-use ir_tree::{Block, Function, Name, Ret, Seq, Ty};
+use ir_tree::{Block, Function, Name, Ret, Seq, Ty, is_print_name};
 use pgo_base::NoMemory;
 use std::alloc::Global;
 
@@ -112,7 +112,7 @@ fn defined_name(alloc: Global, toks: &mut Cursor) -> Result<Name, Stop>
     ensures { Reads result toks.old toks.new grammar.defined_name.read }
 {
     match toks.next() {
-        Some(Item::Global(name)) if name != b"print_i64".as_slice() => Ok(Name::of(alloc, name)?),
+        Some(Item::Global(name)) if !is_print_name(name) => Ok(Name::of(alloc, name)?),
         _ => Err(Stop::Syntax),
     }
 }

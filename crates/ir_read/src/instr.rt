@@ -11,9 +11,8 @@ use crate::item::Item;
 use crate::operand::{operand, value_type};
 use crate::stop::Stop;
 use crate::word::{local, sign, word};
-use ir_tree::{BinOp, Few, Flags, Instr, Name, Operand, Pred, Ret, Ty};
+use ir_tree::{BinOp, Flags, Instr, Name, Operand, Pred, Ret, Seq, Ty, is_print_name};
 use pgo_base::NoMemory;
-use smallvec::SmallVec;
 use std::alloc::Global;
 
 /// The function that may be called without a definition of its own.
@@ -22,7 +21,7 @@ pub(crate) fn callee(alloc: Global, toks: &mut Cursor) -> Result<Name, Stop>
     ensures { Reads result toks.old toks.new grammar.callee.read }
 {
     match toks.next() {
-        Some(Item::Global(name)) if name == b"print_i64".as_slice() => Ok(Name::of(alloc, name)?),
+        Some(Item::Global(name)) if is_print_name(name) => Ok(Name::of(alloc, name)?),
         _ => Err(Stop::Syntax),
     }
 }
@@ -162,13 +161,13 @@ fn more_entries(
     alloc: Global,
     toks: &mut Cursor,
     ty: Ty,
-    mut found: SmallVec<(Operand, Name), 4, Global>,
-) -> Result<Few<(Operand, Name)>, Stop>
+    mut found: Vec<(Operand, Name)>,
+) -> Result<Seq<(Operand, Name)>, Stop>
     ensures { Reads result toks.old toks.new (many_after found.items (first_is (is_sign 44)) (grammar.next_entry ty) (grammar.next_entry_takes ty)).read }
 {
     for _turn in 0..=toks.left() {
         if !toks.starts_sign(b',') {
-            return Ok(Few::of(found));
+            return Ok(Seq::of(found));
         }
         found.push(next_entry(alloc, toks, ty)?)?;
     }
@@ -177,10 +176,10 @@ fn more_entries(
 
 /// One or more entries of a phi.
 #[tactic(auto, unfolding(ir_grammar::specs::Grammar::entries))]
-fn entries(alloc: Global, toks: &mut Cursor, ty: Ty) -> Result<Few<(Operand, Name)>, Stop>
+fn entries(alloc: Global, toks: &mut Cursor, ty: Ty) -> Result<Seq<(Operand, Name)>, Stop>
     ensures { Reads result toks.old toks.new (grammar.entries ty).read }
 {
-    let mut found = SmallVec::new(alloc);
+    let mut found = Vec::new(alloc);
     found.push(entry(alloc, toks, ty)?)?;
     more_entries(alloc, toks, ty, found)
 }
@@ -230,12 +229,12 @@ fn assigned(alloc: Global, toks: &mut Cursor) -> Result<Instr, Stop>
 }
 
 /// One argument, as the list of a call's arguments.
-fn one_argument(alloc: Global, ty: Ty, value: Operand) -> Result<Few<(Ty, Operand)>, NoMemory>
+fn one_argument(alloc: Global, ty: Ty, value: Operand) -> Result<Seq<(Ty, Operand)>, NoMemory>
     ensures { IfOk result (λ list. list ≡ (ty, value) ∷ []) }
 {
-    let mut list = SmallVec::new(alloc);
+    let mut list = Vec::new(alloc);
     list.push((ty, value))?;
-    Ok(Few::of(list))
+    Ok(Seq::of(list))
 }
 
 /// A call of `print_i64`.

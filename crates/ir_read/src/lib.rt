@@ -9,6 +9,7 @@ mod error;
 mod function;
 mod instr;
 mod item;
+mod laws;
 mod operand;
 mod stop;
 mod term;
@@ -16,6 +17,7 @@ mod text;
 mod word;
 
 pub use error::ReadError;
+pub use laws::one_module;
 pub use text::read;
 
 #[cfg(test)]

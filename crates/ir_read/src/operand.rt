@@ -3,13 +3,13 @@
 ghost use Rattle.std.specs.Prelude.{◌≡◌, ◌+◌, ◌*◌, ◌^◌, ◌≤◌, MatchOption};
 ghost use Rattle.std.specs.Char.{digit_value};
 ghost use Rattle.std.specs.Str.Parse.{digits_value};
+ghost use Rattle.ir_tree.specs.Types.{literal_of};
 ghost use Rattle.ir_grammar.specs.Grammar as grammar;
 ghost use Rattle.ir_read.specs.Reads.{Reads};
 
 use crate::cursor::Cursor;
 use crate::item::Item;
 use crate::stop::Stop;
-use ir_grammar::literal;
 use ir_tree::{Name, Operand, Ret, Ty};
 use std::alloc::Global;
 
@@ -107,7 +107,7 @@ pub(crate) fn operand(alloc: Global, toks: &mut Cursor, ty: Ty) -> Result<Operan
 
 /// The literal of the type that these digits are.
 fn literal_of(ty: Ty, minus: bool, digits: &[u8]) -> Option<u64>
-    ensures { result ≡ grammar.literal_of ty minus (digits_value 10 digits.now) }
+    ensures { result ≡ literal_of ty minus (digits_value 10 digits.now) }
 {
-    literal(ty, minus, decimal(digits)?)
+    ty.literal(minus, decimal(digits)?)
 }

@@ -9,7 +9,10 @@ ghost use Rattle.ir_read.specs.Spelled.{SpellsText, Refuses, most_bytes};
 use crate::cursor::Cursor;
 use crate::error::ReadError;
 use crate::function::functions;
+use crate::laws::one_module;
 use crate::stop::Stop;
+use ir_grammar::module_ends;
+use ir_lex::cut_is_spelled;
 use ir_tree::{Module, Seq};
 use std::alloc::Global;
 
@@ -38,9 +41,12 @@ pub fn read(alloc: Global, text: &[u8]) -> Result<Module, ReadError>
     ensures refused { IfErr result (λ error. Refuses text.now error) }
     ensures once { (m n : Module) → SpellsText text.now m → SpellsText text.now n → m ≡ n }
 {
+    one_module();
     if text.len() > MOST_BYTES {
         return Err(ReadError::TextLimit { length: text.len() });
     }
+    cut_is_spelled();
+    module_ends();
     let mut toks = Cursor::new(text);
     match module(alloc, &mut toks) {
         Ok(module) => {

@@ -1,4 +1,15 @@
-pub mod Lending
+pub mod Blocks
+pub mod Edges
+pub mod Flows
+pub mod FunctionNames
+pub mod Functions
+pub mod Graphs
+pub mod Held
+pub mod Locals
 pub mod Names
-pub mod formers
+pub mod Operands
+pub mod Phis
+pub mod Reach
+pub mod Spelling
 pub mod Successors
+pub mod Types

@@ -1,14 +1,12 @@
-// Names and lists are equal where their elements are, and a name is hashed as its bytes.
+// Names are equal where their bytes are, and a name is hashed as its bytes.
 ghost use Rattle.std.specs.Prelude.{nat_eq};
-ghost use Rattle.std.specs.Cmp.Lexicographic.{pointwise, lists_per, lists_equiv, nat_list_eq_equiv};
+ghost use Rattle.std.specs.Cmp.Lexicographic.{pointwise, nat_list_eq_equiv};
 ghost use Rattle.std.specs.Cmp.{partial_equiv_from_equiv};
 ghost use Rattle.std.specs.Cmp.Rules.{hashing};
 ghost use Rattle.std.specs.Hash as fed;
 ghost use Rattle.std.proofs.Common.{rules};
 
-use crate::few::Few;
 use crate::name::Name;
-use crate::seq::Seq;
 use std::hash::{Hash, Hasher};
 
 impl PartialEq for Name {
@@ -33,32 +31,4 @@ impl Hash for Name {
     fn hash<H: Hasher>(&self, state: &mut H) {
         self.bytes().hash(state);
     }
-}
-
-impl<T: PartialEq> PartialEq for Seq<T> {
-    ghost eq = { pointwise T.eq };
-
-    ghost laws = { lists_per T.laws };
-
-    fn eq(&self, other: &Seq<T>) -> bool {
-        self.as_slice() == other.as_slice()
-    }
-}
-
-impl<T: Eq> Eq for Seq<T> {
-    ghost laws = { lists_equiv T.Eq.laws };
-}
-
-impl<T: PartialEq> PartialEq for Few<T> {
-    ghost eq = { pointwise T.eq };
-
-    ghost laws = { lists_per T.laws };
-
-    fn eq(&self, other: &Few<T>) -> bool {
-        self.as_slice() == other.as_slice()
-    }
-}
-
-impl<T: Eq> Eq for Few<T> {
-    ghost laws = { lists_equiv T.Eq.laws };
 }

@@ -3,15 +3,13 @@ ghost use Rattle.std.specs.Prelude.{◌≡◌, IfOk};
 ghost use Rattle.ir_tree.specs.declared.types.Instr.TheVariants.{Binary, Compare, Convert, Freeze, Select, Phi, Alloca, Load, Store, Gep, Call, Count};
 ghost use Rattle.ir_tree.specs.declared.types.Term.TheVariants as term;
 
-use crate::few::Few;
 use crate::name::Name;
-use crate::seq::Seq;
 use crate::types::{
     BinOp, Block, ConvOp, Flags, Function, Global1, Init, Instr, MemTy, Module, Operand, Pred,
     Prof, Ret, Term, Ty,
 };
 use pgo_base::NoMemory;
-use smallvec::SmallVec;
+use seq::Seq;
 use sqlite_items::Boxed;
 use std::alloc::Global;
 
@@ -322,7 +320,7 @@ fn copy_select(
     ty: Ty,
     yes: &Operand,
     no: &Operand,
-    prof: &Option<Prof>,
+    prof: &Option<Boxed<Prof>>,
 ) -> Result<Instr, NoMemory>
     ensures { IfOk result (λ i. i ≡ Select dest.now cond.now ty «yes».now «no».now prof.now) }
 {
@@ -340,7 +338,7 @@ fn copy_phi(
     alloc: Global,
     dest: &Name,
     ty: Ty,
-    entries: &Few<(Operand, Name)>,
+    entries: &Seq<(Operand, Name)>,
 ) -> Result<Instr, NoMemory>
     ensures { IfOk result (λ i. i ≡ Phi dest.now ty entries.now) }
 {
@@ -386,7 +384,7 @@ fn copy_gep(
     inbounds: bool,
     mem: &MemTy,
     address: &Operand,
-    indices: &Few<(Ty, Operand)>,
+    indices: &Seq<(Ty, Operand)>,
 ) -> Result<Instr, NoMemory>
     ensures { IfOk result (λ i. i ≡ Gep dest.now inbounds mem.now address.now indices.now) }
 {
@@ -404,8 +402,8 @@ fn copy_call(
     dest: &Option<Name>,
     ret: Ret,
     callee: &Operand,
-    args: &Few<(Ty, Operand)>,
-    prof: &Option<Prof>,
+    args: &Seq<(Ty, Operand)>,
+    prof: &Option<Boxed<Prof>>,
 ) -> Result<Instr, NoMemory>
     ensures { IfOk result (λ i. i ≡ Call dest.now ret callee.now args.now prof.now) }
 {
@@ -440,7 +438,7 @@ fn copy_cond_br(
     cond: &Operand,
     yes: &Name,
     no: &Name,
-    prof: &Option<Prof>,
+    prof: &Option<Boxed<Prof>>,
 ) -> Result<Term, NoMemory>
     ensures { IfOk result (λ t. t ≡ term.CondBr cond.now «yes».now «no».now prof.now) }
 {
@@ -458,7 +456,7 @@ fn copy_switch(
     value: &Operand,
     default: &Name,
     cases: &Seq<(u64, Name)>,
-    prof: &Option<Prof>,
+    prof: &Option<Boxed<Prof>>,
 ) -> Result<Term, NoMemory>
     ensures { IfOk result (λ t. t ≡ term.Switch ty value.now default.now cases.now prof.now) }
 {
@@ -491,38 +489,38 @@ fn copy_dest(alloc: Global, dest: &Option<Name>) -> Result<Option<Name>, NoMemor
     }
 }
 
-fn copy_prof(alloc: Global, prof: &Option<Prof>) -> Result<Option<Prof>, NoMemory>
+fn copy_prof(alloc: Global, prof: &Option<Boxed<Prof>>) -> Result<Option<Boxed<Prof>>, NoMemory>
     ensures { IfOk result (λ p. p ≡ prof.now) }
 {
     match prof {
-        Some(prof) => Ok(Some(prof.copy(alloc)?)),
+        Some(prof) => Ok(Some(Boxed::new(alloc, prof.get().copy(alloc)?)?)),
         None => Ok(None),
     }
 }
 
 fn copy_entries(
     alloc: Global,
-    entries: &Few<(Operand, Name)>,
-) -> Result<Few<(Operand, Name)>, NoMemory>
+    entries: &Seq<(Operand, Name)>,
+) -> Result<Seq<(Operand, Name)>, NoMemory>
     ensures { IfOk result (λ e. e ≡ entries.now) }
 {
     let items = entries.as_slice();
-    let mut copies = SmallVec::new(alloc);
+    let mut copies = Vec::with_capacity(alloc, items.len())?;
     for item in items {
         copies.push((item.0.copy(alloc)?, item.1.copy(alloc)?))?;
     }
-    Ok(Few::of(copies))
+    Ok(Seq::of(copies))
 }
 
-fn copy_typed(alloc: Global, operands: &Few<(Ty, Operand)>) -> Result<Few<(Ty, Operand)>, NoMemory>
+fn copy_typed(alloc: Global, operands: &Seq<(Ty, Operand)>) -> Result<Seq<(Ty, Operand)>, NoMemory>
     ensures { IfOk result (λ o. o ≡ operands.now) }
 {
     let items = operands.as_slice();
-    let mut copies = SmallVec::new(alloc);
+    let mut copies = Vec::with_capacity(alloc, items.len())?;
     for item in items {
         copies.push((item.0, item.1.copy(alloc)?))?;
     }
-    Ok(Few::of(copies))
+    Ok(Seq::of(copies))
 }
 
 fn copy_cases(alloc: Global, cases: &Seq<(u64, Name)>) -> Result<Seq<(u64, Name)>, NoMemory>

@@ -1,10 +1,10 @@
 // Each call that takes memory is shown to answer Ok; what it answers is in its contract.
 use crate::{
-    BinOp, Block, ConvOp, Few, Flags, Function, Global1, Index, Init, Instr, MemTy, Module, Name,
-    Operand, Pred, Prof, Ret, Seq, Term, Ty,
+    BinOp, Block, ConvOp, Flags, Function, FunctionIndex, Global1, Index, Init, Instr, Local,
+    LocalKind, MemTy, Module, Name, Operand, Pred, Prof, Ret, Seq, Term, Ty, push_global_name,
+    push_local_name,
 };
 use pgo_base::NoMemory;
-use smallvec::SmallVec;
 use sqlite_items::Boxed;
 use std::alloc::Global;
 use std::test::Fail;
@@ -23,9 +23,13 @@ fn local(alloc: Global) -> Result<Operand, NoMemory> {
     Ok(Operand::Local(name(alloc)?))
 }
 
-fn weights(alloc: Global) -> Result<Option<Prof>, NoMemory> {
+fn boxed(alloc: Global, prof: Prof) -> Result<Option<Boxed<Prof>>, NoMemory> {
+    Ok(Some(Boxed::new(alloc, prof)?))
+}
+
+fn weights(alloc: Global) -> Result<Option<Boxed<Prof>>, NoMemory> {
     let list = Vec::from_slice(alloc, [3, 1].as_slice())?;
-    Ok(Some(Prof::Weights(Seq::of(list))))
+    boxed(alloc, Prof::Weights(Seq::of(list)))
 }
 
 fn array(alloc: Global) -> Result<MemTy, NoMemory> {
@@ -35,11 +39,11 @@ fn array(alloc: Global) -> Result<MemTy, NoMemory> {
     })
 }
 
-fn typed(alloc: Global) -> Result<Few<(Ty, Operand)>, NoMemory> {
-    let mut operands = SmallVec::new(alloc);
+fn typed(alloc: Global) -> Result<Seq<(Ty, Operand)>, NoMemory> {
+    let mut operands = Vec::new(alloc);
     operands.push((Ty::I64, local(alloc)?))?;
     operands.push((Ty::Ptr, Operand::Null))?;
-    Ok(Few::of(operands))
+    Ok(Seq::of(operands))
 }
 
 fn binary(alloc: Global) -> Result<Instr, NoMemory> {
@@ -86,12 +90,12 @@ fn select(alloc: Global) -> Result<Instr, NoMemory> {
 }
 
 fn phi(alloc: Global) -> Result<Instr, NoMemory> {
-    let mut entries = SmallVec::new(alloc);
+    let mut entries = Vec::new(alloc);
     entries.push((local(alloc)?, name(alloc)?))?;
     Ok(Instr::Phi {
         dest: name(alloc)?,
         ty: Ty::I64,
-        entries: Few::of(entries),
+        entries: Seq::of(entries),
     })
 }
 
@@ -112,10 +116,13 @@ fn call(alloc: Global) -> Result<Instr, NoMemory> {
         ret: Ret::Value(Ty::I64),
         callee: Operand::Global(name(alloc)?),
         args: typed(alloc)?,
-        prof: Some(Prof::Targets {
-            total: 2,
-            list: Seq::of(list),
-        }),
+        prof: boxed(
+            alloc,
+            Prof::Targets {
+                total: 2,
+                list: Seq::of(list),
+            },
+        )?,
     })
 }
 
@@ -211,7 +218,7 @@ fn function(alloc: Global) -> Result<Function, NoMemory> {
         ret: Ret::Value(Ty::I64),
         params: Seq::of(params),
         blocks: Seq::of(blocks),
-        prof: Some(Prof::Entry(3)),
+        prof: boxed(alloc, Prof::Entry(3))?,
     })
 }
 
@@ -274,12 +281,93 @@ fn lists_hand_back_what_they_are_made_of(rt: HostRuntime) -> Result<(), Fail> {
         *item = 9;
     }
     assert_eq!(rt; seq.take().as_slice(), [9u32, 9].as_slice());
-    let mut few = typed(alloc)?;
-    for item in few.as_mut_slice() {
-        item.0 = Ty::I8;
-    }
-    let few = few.take();
-    assert_eq!(rt; few.as_slice().len(), 2);
-    assert!(rt; few.as_slice()[0].0 == Ty::I8);
+    Ok(())
+}
+
+// Two blocks `a` and `b`, of which the first gives `r`: `br i1 %c, label %b, label %b`.
+fn branching(alloc: Global) -> Result<Function, NoMemory> {
+    let mut params = Vec::new(alloc);
+    params.push((Ty::I1, Name::of(alloc, b"c".as_slice())?))?;
+    let mut instrs = Vec::new(alloc);
+    instrs.push(Instr::Freeze {
+        dest: Name::of(alloc, b"r".as_slice())?,
+        ty: Ty::I8,
+        value: Operand::Int(3),
+    })?;
+    let to_both = Term::CondBr {
+        cond: Operand::Local(Name::of(alloc, b"c".as_slice())?),
+        yes: Name::of(alloc, b"b".as_slice())?,
+        no: Name::of(alloc, b"b".as_slice())?,
+        prof: None,
+    };
+    let mut blocks = Vec::new(alloc);
+    blocks.push(Block {
+        label: Name::of(alloc, b"a".as_slice())?,
+        instrs: Seq::of(instrs),
+        term: to_both,
+    })?;
+    blocks.push(Block {
+        label: Name::of(alloc, b"b".as_slice())?,
+        instrs: Seq::new(alloc),
+        term: Term::Ret { value: None },
+    })?;
+    Ok(Function {
+        name: name(alloc)?,
+        ret: Ret::Void,
+        params: Seq::of(params),
+        blocks: Seq::of(blocks),
+        prof: None,
+    })
+}
+
+#[test]
+fn parameters_labels_and_results_are_found(rt: HostRuntime) -> Result<(), Fail> {
+    let index = FunctionIndex::of(rt.alloc(), &branching(rt.alloc())?)?;
+    let local = |kind, block, item| Some(Local { kind, block, item });
+    assert_eq!(rt;
+        index.find(b"c".as_slice()),
+        local(LocalKind::Param(Ty::I1), 0, 0)
+    );
+    assert_eq!(rt; index.find(b"b".as_slice()), local(LocalKind::Label, 1, 0));
+    assert_eq!(rt;
+        index.find(b"r".as_slice()),
+        local(LocalKind::Result(Ret::Value(Ty::I8)), 0, 0)
+    );
+    assert_eq!(rt; index.find(b"x".as_slice()), None);
+    Ok(())
+}
+
+#[test]
+fn a_hint_that_is_taken_gets_a_number(rt: HostRuntime) -> Result<(), Fail> {
+    let index = FunctionIndex::of(rt.alloc(), &branching(rt.alloc())?)?;
+    assert_eq!(rt;
+        index.fresh(rt.alloc(), b"x".as_slice())?.bytes(),
+        b"x".as_slice()
+    );
+    assert_eq!(rt;
+        index.fresh(rt.alloc(), b"r".as_slice())?.bytes(),
+        b"r.1".as_slice()
+    );
+    Ok(())
+}
+
+#[test]
+fn a_long_name_is_held_and_copied(rt: HostRuntime) -> Result<(), Fail> {
+    let long = Name::of(rt.alloc(), b"a.name.of.26.bytes.in.all.".as_slice())?;
+    assert_eq!(rt;
+        long.copy(rt.alloc())?.bytes(),
+        b"a.name.of.26.bytes.in.all.".as_slice()
+    );
+    Ok(())
+}
+
+#[test]
+fn names_are_quoted_where_they_are_not_plain(rt: HostRuntime) -> Result<(), Fail> {
+    let mut text = Vec::new(rt.alloc());
+    push_global_name(&mut text, b"f".as_slice())?;
+    push_global_name(&mut text, b"a+b".as_slice())?;
+    push_local_name(&mut text, b"12".as_slice())?;
+    push_local_name(&mut text, b"1x".as_slice())?;
+    assert_eq!(rt; text.as_slice(), b"f\"a+b\"12\"1x\"".as_slice());
     Ok(())
 }

@@ -1,7 +1,6 @@
 // The types of a module. Integers are kept modulo 2 to the power of their width.
-use crate::few::Few;
 use crate::name::Name;
-use crate::seq::Seq;
+use seq::Seq;
 use sqlite_items::Boxed;
 
 /// The type of a value: an integer of that many bits, or an opaque pointer.
@@ -163,12 +162,12 @@ pub enum Instr {
         ty: Ty,
         yes: Operand,
         no: Operand,
-        prof: Option<Prof>,
+        prof: Option<Boxed<Prof>>,
     },
     Phi {
         dest: Name,
         ty: Ty,
-        entries: Few<(Operand, Name)>,
+        entries: Seq<(Operand, Name)>,
     },
     Alloca {
         dest: Name,
@@ -189,14 +188,14 @@ pub enum Instr {
         inbounds: bool,
         mem: MemTy,
         address: Operand,
-        indices: Few<(Ty, Operand)>,
+        indices: Seq<(Ty, Operand)>,
     },
     Call {
         dest: Option<Name>,
         ret: Ret,
         callee: Operand,
-        args: Few<(Ty, Operand)>,
-        prof: Option<Prof>,
+        args: Seq<(Ty, Operand)>,
+        prof: Option<Boxed<Prof>>,
     },
     Count {
         symbol: Name,
@@ -217,14 +216,14 @@ pub enum Term {
         cond: Operand,
         yes: Name,
         no: Name,
-        prof: Option<Prof>,
+        prof: Option<Boxed<Prof>>,
     },
     Switch {
         ty: Ty,
         value: Operand,
         default: Name,
         cases: Seq<(u64, Name)>,
-        prof: Option<Prof>,
+        prof: Option<Boxed<Prof>>,
     },
     Ret {
         value: Option<(Ty, Operand)>,
@@ -248,7 +247,7 @@ pub struct Function {
     pub ret: Ret,
     pub params: Seq<(Ty, Name)>,
     pub blocks: Seq<Block>,
-    pub prof: Option<Prof>,
+    pub prof: Option<Boxed<Prof>>,
 }
 
 /// A module: its global variables and its functions, each in the order of the text.

@@ -1,14 +1,13 @@
 // The hash of a name.
-ghost use Rattle.std.specs.Prelude.{◌≡◌, take};
-ghost use Rattle.std.specs.Int.{w64, from_le_bytes};
-ghost use Rattle.md5.specs.Md5.{md5};
+ghost use Rattle.std.specs.Prelude.{◌≡◌};
+ghost use Rattle.pgo_base.specs.Hash as spec;
 
 use md5::{Digest, Md5};
 
 /// The first 8 bytes of the MD5 of `bytes`, read as a little-endian number: the hash that LLVM's profile runtime gives
 /// to a function's name (`IndexedInstrProf::ComputeHash`). It takes no memory.
 pub fn hash8(bytes: &[u8]) -> u64
-    ensures { result ≡ from_le_bytes w64 (take 8 (md5 bytes.now)) }
+    ensures { result ≡ spec.hash8 bytes.now }
 {
     let digest = Md5::digest(bytes);
     u64::from_le_bytes([

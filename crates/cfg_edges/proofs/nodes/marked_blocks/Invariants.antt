@@ -1,5 +1,5 @@
 use Rattle.std.proofs.Common.{◌≡◌, ◌++◌, drop}
-use Rattle.cfg_edges.specs.Nodes.{marked_from}
+use Rattle.ir_tree.specs.Edges.{marked_from}
 use Rattle.cfg_edges.proofs.nodes.marked_blocks.Given as goal
 
 abbrev pub invariant-loop-block : goal.invariant-loop-block

@@ -1,5 +1,5 @@
 use Rattle.std.proofs.Common.{◌≡◌, ◌+◌, ◌≤◌, ◌++◌, drop}
-use Rattle.cfg_edges.specs.Nodes.{numbers}
+use Rattle.ir_tree.specs.Edges.{numbers}
 use Rattle.cfg_edges.proofs.nodes.numbers_of.Given as goal
 
 abbrev pub invariant-loop-marked : goal.invariant-loop-marked

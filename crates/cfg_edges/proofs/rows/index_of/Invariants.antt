@@ -1,6 +1,6 @@
 use Rattle.std.proofs.Common.{take}
 use Rattle.ir_tree.specs.Names.{Indexes}
-use Rattle.cfg_edges.specs.Blocks.{labels}
+use Rattle.ir_tree.specs.Edges.{labels}
 use Rattle.cfg_edges.proofs.rows.index_of.Given as goal
 
 abbrev pub invariant-loop-b : goal.invariant-loop-b

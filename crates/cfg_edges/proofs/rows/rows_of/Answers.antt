@@ -6,4 +6,4 @@ pub rows_by-requires : goal.rows_by-requires
 rows_by-requires c = few_places c.in_ok-index.index c.args.blocks.now c.in_ok-index.ensures c.requires
 
 pub returns : goal.returns
-returns c = subst (λ (rs : List (List ℕ)). IfOk c.rows_by.result (λ made. made.items ≡ rs)) (rows_found c.in_ok-index.index c.args.blocks.now c.in_ok-index.ensures) c.rows_by.ensures
+returns c = subst (λ (rs : List (List ℕ)). IfOk c.rows_by.result (λ made. made ≡ rs)) (rows_found c.in_ok-index.index c.args.blocks.now c.in_ok-index.ensures) c.rows_by.ensures

@@ -8,6 +8,3 @@ use Rattle.ir_check.proofs.accept.judge.Goals as goal
 
 pub first_fault-requires-clause-few : goal.first_fault-requires-clause-few
 first_fault-requires-clause-few c = subst (λ (fs : List Function). HasFew fs) (sym c.as_slice-functions.ensures) (has_few c.args.«module».now (first_none (passed c.args.«module».now) (sym c.in-None.ensures)))
-
-pub first_place_of-requires-clause-few : goal.first_place_of-requires-clause-few
-first_place_of-requires-clause-few c = subst (λ (fs : List Function). HasFew fs) (sym c.as_slice-functions.ensures) (has_few c.args.«module».now (first_none (passed c.args.«module».now) (sym c.in-None.ensures)))

@@ -1,5 +1,5 @@
 use Rattle.std.proofs.Common.{◌≡◌, ◌<◌, length, vec_len, ◌∙◌, arith}
-use Rattle.ir_check.specs.Locals.{known}
+use Rattle.ir_tree.specs.FunctionNames.{indexed}
 use Rattle.ir_check.proofs.ArrivalLists.{entered_more}
 use Rattle.ir_check.proofs.arrivals.arrivals_of.Goals as goal
 
@@ -8,5 +8,5 @@ loop-p-preserved c = record {
   count = c.in_ok-add_successors.ensures.count ∙ c.loop-p.invariant.count;
   each = λ b h.
       let within : b < vec_len c.loop-p.lists = let same : vec_len c.loop-p.lists ≡ length c.args.blocks.now = c.loop-p.invariant.count in omega arith in
-      entered_more (known c.args.scope.now) c.args.blocks.now c.loop-p.lists c.add_successors.new.lists c.loop-p.p c.index-blocks-p.result b c.loop-p-test.true c.index-blocks-p.is within (c.loop-p.invariant.each b h) c.in_ok-add_successors.ensures;
+      entered_more (indexed c.args.locals.now) c.args.blocks.now c.loop-p.lists c.add_successors.new.lists c.loop-p.p c.index-blocks-p.result b c.loop-p-test.true c.index-blocks-p.is within (c.loop-p.invariant.each b h) c.in_ok-add_successors.ensures;
 }

@@ -1,8 +1,9 @@
 use Rattle.std.proofs.Common.{◌+◌}
-use Rattle.ir_model.specs.Machine.{run}
-use Rattle.ir_model.specs.Step.{step, function_at}
+use Rattle.spec_machines.specs.Machine.{run}
+use Rattle.ir_tree.specs.Functions.{function_at}
+use Rattle.ir_model.specs.Step.{step}
 use Rattle.ir_model.specs.Run.{begun}
-use Rattle.ir_model.proofs.Runs.{within_on, run_more}
+use Rattle.spec_machines.proofs.Runs.{within_on, run_more}
 use Rattle.ir_model.proofs.laws.more_steps_go_on.Goals as goal
 
 pub returns : goal.returns

@@ -1,4 +1,4 @@
-use Rattle.ir_model.specs.Step.{function_at}
+use Rattle.ir_tree.specs.Functions.{function_at}
 use Rattle.ir_model.proofs.Output.{call_bounded}
 use Rattle.ir_model.proofs.laws.output_is_bounded.Goals as goal
 

@@ -1,5 +1,5 @@
 use Rattle.std.proofs.Common.{◌≡◌, ◌≤◌, true, [], refl, ◌∙◌, arith, rules}
-use Rattle.ir_grammar.specs.Loops.{many_begin, many_next}
+use Rattle.ir_read.proofs.Loops.{many_begin, many_next}
 use Rattle.ir_grammar.specs.Words.{any_left}
 use Rattle.ir_grammar.specs.Grammar.{function, function_takes}
 use Rattle.ir_read.proofs.function.functions.Goals as goal

@@ -1,5 +1,5 @@
 use Rattle.std.proofs.Common.{◌≡◌, ◌≤◌, true, refl, ◌∙◌, arith, rules}
-use Rattle.ir_grammar.specs.Loops.{many_begin, many_next}
+use Rattle.ir_read.proofs.Loops.{many_begin, many_next}
 use Rattle.ir_grammar.specs.Words.{first_is, is_sign}
 use Rattle.ir_grammar.specs.Grammar.{next_entry, next_entry_takes}
 use Rattle.ir_read.proofs.instr.more_entries.Goals as goal
@@ -15,6 +15,6 @@ loop-turn-preserved c =
     let h : c.loop-turn._turn ≤ c.left-turn-end.result = omega arith in
     let b : (first_is (is_sign 44)) c.loop-turn.toks.tokens ≡ true = first_of (cc, search rules) in
     record {
-      reads = c.loop-turn.invariant.reads ∙ many_next (first_is (is_sign 44)) (next_entry c.args.ty) c.left-turn-end.result c.loop-turn._turn c.loop-turn.found.items c.push.new.self.items c.loop-turn.toks.tokens c.in_ok-next_entry.field-0 c.next_entry.new.toks.tokens h b c.in_ok-next_entry.ensures.0 c.in_ok-push.ensures.ok;
+      reads = c.loop-turn.invariant.reads ∙ many_next (first_is (is_sign 44)) (next_entry c.args.ty) c.left-turn-end.result c.loop-turn._turn c.loop-turn.found.items c.push.new.self.items c.loop-turn.toks.tokens c.in_ok-next_entry.field-0 c.next_entry.new.toks.tokens h b c.in_ok-next_entry.ensures.0 c.in_ok-push.ensures.items;
       whole = c.in_ok-next_entry.ensures.1 ∙ c.loop-turn.invariant.whole;
     }

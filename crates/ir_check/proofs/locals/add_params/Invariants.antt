@@ -1,7 +1,0 @@
-use Rattle.std.proofs.Common.{◌≡◌, ◌++◌, take}
-use Rattle.ir_check.specs.Lists.{each}
-use Rattle.ir_check.specs.Locals.{param}
-use Rattle.ir_check.proofs.locals.add_params.Given as goal
-
-abbrev pub invariant-loop-i : goal.invariant-loop-i
-invariant-loop-i l = l.found.items ≡ l.initial.found.items ++ each param 0 (take l.i l.params)

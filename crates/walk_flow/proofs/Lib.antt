@@ -1,0 +1,5 @@
+pub mod Ends
+pub mod Flow
+pub mod Places
+pub mod Sums
+pub mod Ways
