@@ -1,0 +1,11 @@
+pub mod Chained
+pub mod Counting
+pub mod Degrees
+pub mod Further
+pub mod Graphs
+pub mod Offered
+pub mod Spanned
+pub mod Stacks
+pub mod Unique
+pub mod Weighing
+pub mod Whole

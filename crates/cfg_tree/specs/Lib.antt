@@ -1,0 +1,12 @@
+pub mod Chains
+pub mod Counted
+pub mod Examples
+pub mod Growing
+pub mod Grown
+pub mod Incident
+pub mod Marked
+pub mod Offers
+pub mod Tree
+pub mod Walk
+pub mod Walking
+pub mod Weights

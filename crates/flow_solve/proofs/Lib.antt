@@ -1,0 +1,14 @@
+pub mod Balance
+pub mod Graphs
+pub mod Joined
+pub mod Law
+pub mod Listed
+pub mod Marks
+pub mod Merging
+pub mod Netting
+pub mod Paying
+pub mod Scaled
+pub mod Solution
+pub mod Unique
+pub mod Within
+pub mod Writing

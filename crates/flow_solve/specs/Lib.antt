@@ -1,0 +1,5 @@
+pub mod Counts
+pub mod Ends
+pub mod Nets
+pub mod Solved
+pub mod Weights
