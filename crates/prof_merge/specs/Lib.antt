@@ -1,0 +1,4 @@
+pub mod Inputs
+pub mod Order
+pub mod Parts
+pub mod Show

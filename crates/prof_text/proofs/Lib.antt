@@ -1,0 +1,9 @@
+pub mod AppendLemmas
+pub mod FindLemmas
+pub mod GatherLemmas
+pub mod OrderLemmas
+pub mod RiseLemmas
+pub mod SiteLemmas
+pub mod SumLemmas
+pub mod TextLemmas
+pub mod WalkLemmas

@@ -1,0 +1,9 @@
+pub mod Gathered
+pub mod Merged
+pub mod Mismatch
+pub mod Order
+pub mod Record
+pub mod Site
+pub mod Sums
+pub mod Tally
+pub mod Text

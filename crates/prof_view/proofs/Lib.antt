@@ -1,0 +1,10 @@
+mod Numerals
+mod TimesLemmas
+mod LineLemmas
+mod ManyLemmas
+mod ViewLemmas
+mod TargetLemmas
+mod KindLemmas
+mod AgreeLemmas
+mod PlainLemmas
+mod FrontLemmas

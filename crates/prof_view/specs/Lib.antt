@@ -1,0 +1,11 @@
+pub mod Profile
+pub mod Lines
+pub mod Words
+pub mod Digits
+pub mod Times
+pub mod Grammar
+pub mod Spelled
+pub mod Views
+pub mod Laws
+pub mod Examples
+pub mod Reads

@@ -1,0 +1,90 @@
+// Lines of one field each.
+ghost use Rattle.std.specs.Prelude.{◌≡◌, ◌≤◌, IfOk};
+ghost use Rattle.prof_view.specs.Grammar.{header_line, name_line, hash_line, number_line, number_line_within, target_line};
+ghost use Rattle.prof_view.specs.Reads.{Reads};
+
+use crate::fault::Fault;
+use crate::lines::next_line;
+use crate::numbers::{decimal, decimal_within, hash};
+use crate::plain::plain_number;
+use crate::words::{header_word, name, target};
+
+#[tactic(auto, unfolding(crate::specs::Grammar::header_line))]
+pub(crate) fn header_line(text: &[u8]) -> Result<(bool, &[u8]), Fault>
+    ensures { Reads (λ x. x) result text.now header_line.read }
+{
+    let (line, rest) = next_line(text)?;
+    match header_word(line) {
+        Some(flag) => Ok((flag, rest)),
+        None => Err(Fault { left: rest.len() }),
+    }
+}
+
+#[tactic(auto, unfolding(crate::specs::Grammar::name_line))]
+pub(crate) fn name_line(text: &[u8]) -> Result<(&[u8], &[u8]), Fault>
+    ensures { Reads (λ x. x.now) result text.now name_line.read }
+{
+    let (line, rest) = next_line(text)?;
+    match name(line) {
+        Some(name) => Ok((name, rest)),
+        None => Err(Fault { left: rest.len() }),
+    }
+}
+
+#[tactic(auto, unfolding(crate::specs::Grammar::hash_line))]
+pub(crate) fn hash_line(text: &[u8]) -> Result<(u64, &[u8]), Fault>
+    ensures { Reads (λ x. x) result text.now hash_line.read }
+{
+    let (line, rest) = next_line(text)?;
+    match hash(line) {
+        Some(hash) => Ok((hash, rest)),
+        None => Err(Fault { left: rest.len() }),
+    }
+}
+
+/// A number.
+pub(crate) fn number_line(text: &[u8]) -> Result<(u64, &[u8]), Fault>
+    ensures { Reads (λ x. x) result text.now number_line.read }
+{
+    match plain_number(text) {
+        Some(found) => Ok(found),
+        None => any_number_line(text),
+    }
+}
+
+// A number, in whatever form.
+#[tactic(auto, unfolding(crate::specs::Grammar::number_line))]
+fn any_number_line(text: &[u8]) -> Result<(u64, &[u8]), Fault>
+    ensures { Reads (λ x. x) result text.now number_line.read }
+{
+    let (line, rest) = next_line(text)?;
+    match decimal(line) {
+        Some(number) => Ok((number, rest)),
+        None => Err(Fault { left: rest.len() }),
+    }
+}
+
+/// A number from `least` to `most`.
+#[tactic(auto, unfolding(crate::specs::Grammar::number_line_within))]
+pub(crate) fn number_line_within(text: &[u8], least: u64, most: u64) -> Result<(u64, &[u8]), Fault>
+    ensures reads { Reads (λ x. x) result text.now (number_line_within least most).read }
+    ensures within { IfOk result (λ p. p.0 ≤ most) }
+{
+    let (line, rest) = next_line(text)?;
+    match decimal_within(line, least, most) {
+        Some(number) => Ok((number, rest)),
+        None => Err(Fault { left: rest.len() }),
+    }
+}
+
+/// A target's name and its count.
+#[tactic(auto, unfolding(crate::specs::Grammar::target_line))]
+pub(crate) fn target_line(text: &[u8]) -> Result<((&[u8], u64), &[u8]), Fault>
+    ensures { Reads (λ p. (p.0.now, p.1)) result text.now target_line.read }
+{
+    let (line, rest) = next_line(text)?;
+    match target(line) {
+        Some(found) => Ok((found, rest)),
+        None => Err(Fault { left: rest.len() }),
+    }
+}
