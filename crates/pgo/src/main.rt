@@ -2,12 +2,13 @@
 #![tactic(auto)]
 
 use pgo_base::{FileStore, QuietGate, StreamSink};
-use pgo_top::{Status, pgo};
+use pgo_top::{no_memory, pgo, usage};
 use std::alloc::Global;
+use std::io::ErrorKind;
 use std::process::ExitCode;
 use std::{env, io};
 
-// The words after the program's name.
+// The words after the program's name. One that isn't UTF-8 is invalid data.
 fn words_of(rt: &HostRuntime, alloc: Global) -> io::Result<Vec<String>> {
     let mut words = Vec::new(alloc);
     for word in env::args(rt)?.skip(1) {
@@ -18,14 +19,17 @@ fn words_of(rt: &HostRuntime, alloc: Global) -> io::Result<Vec<String>> {
 
 fn main(rt: HostRuntime) -> ExitCode {
     let alloc = rt.alloc();
-    let Ok(words) = words_of(&rt, alloc) else {
-        return ExitCode::from(Status::Memory as u8);
-    };
     let mut store = FileStore::new(&rt, alloc);
     let mut out = StreamSink::new(rt.stdout());
     let mut err = StreamSink::new(rt.stderr());
-    let status = pgo(
-        &rt, alloc, &words, &mut store, &mut out, &mut err, &QuietGate,
-    );
-    ExitCode::from(status as u8)
+    let status = match words_of(&rt, alloc) {
+        Ok(words) => pgo(
+            &rt, alloc, &words, &mut store, &mut out, &mut err, &QuietGate,
+        ),
+        Err(error) => match error.kind() {
+            ErrorKind::InvalidData => usage(&mut err),
+            _ => no_memory(&mut err),
+        },
+    };
+    ExitCode::from(status.number())
 }

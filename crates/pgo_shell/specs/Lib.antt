@@ -1,7 +1,9 @@
-pub mod Verdict
+pub mod Judgement
+pub mod World
 pub mod Shell
 pub mod Product
-pub mod Judged
 pub mod Steps
 pub mod Ended
 pub mod Promises
+pub mod Status
+pub mod Laws

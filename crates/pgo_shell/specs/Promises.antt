@@ -1,26 +1,15 @@
 -- What each status of a command promises, and which status comes.
-use Rattle.std.specs.Prelude.{◌≡◌, ◌⊎◌, ℕ, List, IsSome, Ok}
-use Rattle.pgo_base.specs.Outside.{SameFiles}
-use Rattle.pgo_shell.specs.Verdict.{Verdict, Refuses, Judgement, IsRefused, IsHalted, IsFine, judgement}
-use Rattle.pgo_shell.specs.Shell.{World, Faults, Task, Worked, Untouched, AreRead, PutWhole, PutFront, Written, OpenAt, Delivers, ReadFailed, FaultsRose}
+use Rattle.std.specs.Prelude.{◌≡◌, ◌⊎◌, ℕ, List, IsSome, Option, None, Some, Ok}
+use Rattle.pgo_shell.specs.Judgement.{Made}
+use Rattle.pgo_shell.specs.World.{World}
+use Rattle.pgo_shell.specs.Shell.{Task, Worked, Untouched, AreRead, PutWhole, PutFront, NoneWritten, Written, OpenAt, Delivers, ReadFailed, FaultsRose, RefusedTexts}
 use Rattle.pgo_shell.specs.declared.status.Status.{Status}
 use Rattle.pgo_shell.specs.declared.status.Status.TheVariants as status
 
--- after `Done`: something was made of the texts, its output was put whole, its files are written, all others are as before
-abbrev pub DoneStands : Task → World → World → Status → Type 0
-DoneStands task old new s = s ≡ status.Done → Delivers task old new (Ok tt)
-
--- after `Refused`: the texts are refused, and nothing was touched
-abbrev pub RefusedStands : Task → World → World → Status → Type 0
-RefusedStands task old new s =
-    s ≡ status.Refused →
-    (texts : List (List ℕ)) × AreRead old.files task.reads texts × ((line : List ℕ) × task.judges texts (Refuses line)) × Untouched old new
-
 -- after `NotReturned`: what was made halts, its output was put whole, and no file changed
-abbrev pub NotReturnedStands : Task → World → World → Status → Type 0
-NotReturnedStands task old new s =
-    s ≡ status.NotReturned →
-    (worked : Worked task old.files) × IsSome worked.made.halted × PutWhole worked.made old new × SameFiles old.files new.files
+abbrev pub HaltStands : Task → World → World → Type 0
+HaltStands task old new =
+    (worked : Worked task old.files) × IsSome worked.made.halted × PutWhole worked.made old new × NoneWritten old new
 
 -- the command stopped before its end for a fault or for want of memory
 abbrev pub IsStopped : Status → Type 0
@@ -32,23 +21,30 @@ abbrev pub StoppedStands : Task → World → World → Type 0
 StoppedStands task old new =
     Untouched old new
     ⊎ ((worked : Worked task old.files)
-    × ((PutFront worked.made old new × SameFiles old.files new.files)
+    × ((PutFront worked.made old new × NoneWritten old new)
     ⊎ (PutWhole worked.made old new
     × ((k : ℕ) × (Written worked.made task.writes k old new ⊎ OpenAt worked.made task.writes k old new)))))
 
--- `Outside` comes only where a fault rose: on a file that the command reads or writes, or of the output
-abbrev pub OutsideCause : Task → Faults → Faults → Status → Type 0
-OutsideCause task before now s = s ≡ status.Outside → FaultsRose task before now
+-- the status of what was made
+abbrev pub status_for : Option (List ℕ) → Status
+status_for None = status.Done
+status_for (Some line) = status.NotReturned
 
-abbrev pub status_for : Judgement → Status
-status_for IsRefused = status.Refused
-status_for IsHalted = status.NotReturned
-status_for IsFine = status.Done
-
--- Which status comes: where no fault rose, the one that the texts call for, or `Memory`; and texts that are refused are
--- refused wherever no read failed
-abbrev pub StatusComes : Task → World → Faults → Faults → Status → Type 0
-StatusComes task old before now s =
-    (texts : List (List ℕ)) (v : Verdict) → AreRead old.files task.reads texts → task.judges texts v →
-    ((FaultsRose task before now → ⊥) → (s ≡ status_for (judgement v)) ⊎ (s ≡ status.Memory))
-    × (judgement v ≡ IsRefused → (ReadFailed task before now → ⊥) → (s ≡ status.Refused) ⊎ (s ≡ status.Memory))
+pub record Promises (task : Task) (old new : World) (s : Status) : Type 0 where
+  -- after `Done`: something was made of the texts, its output was put whole, its files are written, all others are as before
+  pub done : s ≡ status.Done → old.tells → Delivers task old new (Ok tt)
+  -- after `Refused`: the texts are refused, and nothing was touched
+  pub refused : s ≡ status.Refused → old.tells → (line : List ℕ) × RefusedTexts task old line
+  pub untouched : s ≡ status.Refused → Untouched old new
+  pub not_returned : s ≡ status.NotReturned → old.tells → HaltStands task old new
+  pub stopped : IsStopped s → old.tells → StoppedStands task old new
+  -- the words were right
+  pub words : s ≡ status.Words → ⊥
+  -- `Outside` comes only where a fault rose: on a file that the command reads or writes, or of the output
+  pub outside : s ≡ status.Outside → FaultsRose task old new
+  -- texts that are refused are refused wherever no read failed
+  pub refuses : (texts : List (List ℕ)) (line : List ℕ) → old.tells → AreRead old.files task.reads texts → (task.judges texts).refuses line →
+      (ReadFailed task old new → ⊥) → (s ≡ status.Refused) ⊎ (s ≡ status.Memory)
+  -- texts of which something is made end as it does wherever no fault rose
+  pub finishes : (texts : List (List ℕ)) (made : Made) → old.tells → AreRead old.files task.reads texts → (task.judges texts).finds made →
+      (FaultsRose task old new → ⊥) → (s ≡ status_for made.halted) ⊎ (s ≡ status.Memory)

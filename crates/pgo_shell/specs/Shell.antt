@@ -3,25 +3,16 @@ use Rattle.std.specs.Prelude.{◌≡◌, ◌⊎◌, ℕ, Bool, true, false, List
 use Rattle.std.specs.Option.{option_map}
 use Rattle.std.specs.Cmp.Lexicographic.{pointwise}
 use Rattle.pgo_base.specs.Outside.{Files, Call, SameFiles, SameOthers, Gained, Rose}
-use Rattle.pgo_shell.specs.Verdict.{Made, Verdict, Refuses, Gives}
+use Rattle.pgo_shell.specs.Judgement.{Made, Whole}
+use Rattle.pgo_shell.specs.World.{World}
 use Rattle.pgo_shell.specs.declared.stop.Stop.{Stop}
 use Rattle.pgo_shell.specs.declared.stop.Stop.TheVariants as stop
 use Rattle.pgo_shell.specs.declared.status.Status.{Status}
 use Rattle.pgo_shell.specs.declared.status.Status.TheVariants as status
 
--- ---- the world: files, and the bytes of the output
-
-pub record World : Type 0 where
-  pub files : Files
-  pub put : List ℕ
-
--- the failed calls of the files, and the count of faults of the output
-pub record Faults : Type 0 where
-  pub failures : List Call
-  pub count : ℕ
-
+-- nothing was touched
 abbrev pub Untouched : World → World → Type 0
-Untouched old new = (new.put ≡ old.put) × SameFiles old.files new.files
+Untouched old new = (old.shows → new.put ≡ old.put) × (old.tells → SameFiles old.files new.files)
 
 -- the text of a file: its bytes as far as a read gives them
 unfoldable pub text_of : Files → List ℕ → Option (List ℕ)
@@ -45,34 +36,42 @@ after (entry ∷ entries) files = after entries (with_file files entry)
 pub record Task : Type 1 where
   pub reads : List (List ℕ)
   pub writes : List (List ℕ)
-  pub judges : List (List ℕ) → Verdict → Type 0
+  pub judges : List (List ℕ) → Whole
 
 -- the command made this of the texts of its files
 pub record Worked (task : Task) (files : Files) : Type 0 where
   pub texts : List (List ℕ)
   pub made : Made
   pub read : AreRead files task.reads texts
-  pub judged : task.judges texts (Gives made)
+  pub judged : (task.judges texts).finds made
 
 -- ---- what stands
 
 -- the whole output was put
 abbrev pub PutWhole : Made → World → World → Type 0
-PutWhole made old new = new.put ≡ old.put ++ made.output
+PutWhole made old new = old.shows → new.put ≡ old.put ++ made.output
 
 -- a front of the output was put
 abbrev pub PutFront : Made → World → World → Type 0
-PutFront made old new = (n : ℕ) × (new.put ≡ old.put ++ take n made.output)
+PutFront made old new = old.shows → (n : ℕ) × (new.put ≡ old.put ++ take n made.output)
 
 -- the first k files are written, and no other file changed
 abbrev pub Written : Made → List (List ℕ) → ℕ → World → World → Type 0
-Written made names k old new = SameFiles (after (take k (zip names made.written)) old.files) new.files
+Written made names k old new = old.tells → SameFiles (after (take k (zip names made.written)) old.files) new.files
 
 -- the first k files are written, the file after them is open, and no other file changed
 abbrev pub OpenAt : Made → List (List ℕ) → ℕ → World → World → Type 0
 OpenAt made names k old new =
-    (name : List ℕ) × (slice_get names k ≡ Some name)
+    old.tells → (name : List ℕ) × (slice_get names k ≡ Some name)
     × SameOthers name (after (take k (zip names made.written)) old.files) new.files
+
+-- the first files are written, and no other file changed
+abbrev pub SomeWritten : Made → List (List ℕ) → World → World → Type 0
+SomeWritten made names old new = old.tells → (k : ℕ) × SameFiles (after (take k (zip names made.written)) old.files) new.files
+
+-- no file changed
+abbrev pub NoneWritten : World → World → Type 0
+NoneWritten old new = old.tells → SameFiles old.files new.files
 
 -- what stands once something was made, by the end: the output is put first, then the files are written in order
 abbrev pub Delivered : Made → List (List ℕ) → World → World → Result (Unit {0}) Stop → Type 0
@@ -80,28 +79,31 @@ Delivered made names old new (Ok _) =
     (made.halted ≡ None) × PutWhole made old new × Written made names (length names) old new
 Delivered made names old new (Err (stop.Refused line)) = ⊥
 Delivered made names old new (Err (stop.Halted line)) =
-    (made.halted ≡ Some line.items) × PutWhole made old new × SameFiles old.files new.files
+    (made.halted ≡ Some line.items) × PutWhole made old new × NoneWritten old new
 Delivered made names old new (Err (stop.Read index)) = ⊥
-Delivered made names old new (Err stop.Output) = PutFront made old new × SameFiles old.files new.files
+Delivered made names old new (Err stop.Output) = PutFront made old new × NoneWritten old new
 Delivered made names old new (Err (stop.Write index)) =
     (made.halted ≡ None) × PutWhole made old new × OpenAt made names index old new
 Delivered made names old new (Err stop.NoMemory) =
-    (PutFront made old new × SameFiles old.files new.files)
-    ⊎ ((made.halted ≡ None) × PutWhole made old new × ((k : ℕ) × Written made names k old new))
+    (PutFront made old new × NoneWritten old new)
+    ⊎ ((made.halted ≡ None) × PutWhole made old new × SomeWritten made names old new)
 
 abbrev pub Delivers : Task → World → World → Result (Unit {0}) Stop → Type 0
 Delivers task old new result = (worked : Worked task old.files) × Delivered worked.made task.writes old new result
 
+-- the texts of the files are refused with this line
+abbrev pub RefusedTexts : Task → World → List ℕ → Type 0
+RefusedTexts task old line = (texts : List (List ℕ)) × AreRead old.files task.reads texts × (task.judges texts).refuses line
+
 -- what stands after a command, by its end
 abbrev pub Ran : Task → World → World → Result (Unit {0}) Stop → Type 0
-Ran task old new (Ok _) = Delivers task old new (Ok tt)
-Ran task old new (Err (stop.Refused line)) =
-    (texts : List (List ℕ)) × AreRead old.files task.reads texts × task.judges texts (Refuses line.items) × Untouched old new
-Ran task old new (Err (stop.Halted line)) = Delivers task old new (Err (stop.Halted line))
+Ran task old new (Ok _) = old.tells → Delivers task old new (Ok tt)
+Ran task old new (Err (stop.Refused line)) = (old.tells → RefusedTexts task old line.items) × Untouched old new
+Ran task old new (Err (stop.Halted line)) = old.tells → Delivers task old new (Err (stop.Halted line))
 Ran task old new (Err (stop.Read index)) = Untouched old new
-Ran task old new (Err stop.Output) = Delivers task old new (Err stop.Output)
-Ran task old new (Err (stop.Write index)) = Delivers task old new (Err (stop.Write index))
-Ran task old new (Err stop.NoMemory) = Untouched old new ⊎ Delivers task old new (Err stop.NoMemory)
+Ran task old new (Err stop.Output) = old.tells → Delivers task old new (Err stop.Output)
+Ran task old new (Err (stop.Write index)) = old.tells → Delivers task old new (Err (stop.Write index))
+Ran task old new (Err stop.NoMemory) = Untouched old new ⊎ (old.tells → Delivers task old new (Err stop.NoMemory))
 
 -- ---- what caused the end
 
@@ -110,28 +112,28 @@ abbrev pub FailedAt : List (List ℕ) → ℕ → Bool → List Call → List Ca
 FailedAt names index was_write before now =
     (name : List ℕ) × (slice_get names index ≡ Some name) × Gained before now (name, was_write)
 
-abbrev pub Causes : Task → Faults → Faults → Result (Unit {0}) Stop → Type 0
-Causes task before now (Ok _) = now.failures ≡ before.failures
-Causes task before now (Err (stop.Refused line)) = now.failures ≡ before.failures
-Causes task before now (Err (stop.Halted line)) = now.failures ≡ before.failures
-Causes task before now (Err (stop.Read index)) = FailedAt task.reads index false before.failures now.failures
-Causes task before now (Err stop.Output) = (now.failures ≡ before.failures) × Rose before.count now.count
-Causes task before now (Err (stop.Write index)) = FailedAt task.writes index true before.failures now.failures
-Causes task before now (Err stop.NoMemory) = now.failures ≡ before.failures
+abbrev pub Causes : Task → World → World → Result (Unit {0}) Stop → Type 0
+Causes task old new (Ok _) = new.failures ≡ old.failures
+Causes task old new (Err (stop.Refused line)) = new.failures ≡ old.failures
+Causes task old new (Err (stop.Halted line)) = new.failures ≡ old.failures
+Causes task old new (Err (stop.Read index)) = FailedAt task.reads index false old.failures new.failures
+Causes task old new (Err stop.Output) = (new.failures ≡ old.failures) × Rose old.faults new.faults
+Causes task old new (Err (stop.Write index)) = FailedAt task.writes index true old.failures new.failures
+Causes task old new (Err stop.NoMemory) = new.failures ≡ old.failures
 
 -- a read of a file that the command reads failed
-abbrev pub ReadFailed : Task → Faults → Faults → Type 0
-ReadFailed task before now =
-    (name : List ℕ) × Contains task.reads name × Gained before.failures now.failures (name, false)
+abbrev pub ReadFailed : Task → World → World → Type 0
+ReadFailed task old new =
+    (name : List ℕ) × Contains task.reads name × Gained old.failures new.failures (name, false)
 
 -- a write of a file that the command writes failed
-abbrev pub WriteFailed : Task → Faults → Faults → Type 0
-WriteFailed task before now =
-    (name : List ℕ) × Contains task.writes name × Gained before.failures now.failures (name, true)
+abbrev pub WriteFailed : Task → World → World → Type 0
+WriteFailed task old new =
+    (name : List ℕ) × Contains task.writes name × Gained old.failures new.failures (name, true)
 
 -- a fault of the files or of the output: on a file that the command reads or writes, or a rise of the output's count
-abbrev pub FaultsRose : Task → Faults → Faults → Type 0
-FaultsRose task before now = ReadFailed task before now ⊎ (WriteFailed task before now ⊎ Rose before.count now.count)
+abbrev pub FaultsRose : Task → World → World → Type 0
+FaultsRose task old new = ReadFailed task old new ⊎ (WriteFailed task old new ⊎ Rose old.faults new.faults)
 
 -- ---- status and line
 

@@ -2,7 +2,8 @@
 use Rattle.std.specs.Prelude.{◌≡◌, ℕ, ◌≤◌, true, false, List, ◌++◌, length, take, Some, Result, Ok, Err, slice_get}
 use Rattle.std.specs.List.{zip}
 use Rattle.pgo_base.specs.Outside.{Call, Files, Rose, SameFiles, SameOthers}
-use Rattle.pgo_shell.specs.Shell.{FailedAt, Faults, after}
+use Rattle.pgo_shell.specs.World.{World}
+use Rattle.pgo_shell.specs.Shell.{FailedAt, after}
 use Rattle.pgo_shell.specs.declared.stop.Stop.{Stop}
 use Rattle.pgo_shell.specs.declared.stop.Stop.TheVariants as stop
 
@@ -62,11 +63,11 @@ OutputRises before now (Err (stop.Write index)) = ⊥
 OutputRises before now (Err stop.NoMemory) = before ≤ now
 
 -- the delivery stops for a halt, at a failed output or write, or without memory
-abbrev pub DeliveryCauses : List (List ℕ) → Faults → Faults → Result (Unit {0}) Stop → Type 0
-DeliveryCauses names before now (Ok v) = now.failures ≡ before.failures
-DeliveryCauses names before now (Err (stop.Refused line)) = ⊥
-DeliveryCauses names before now (Err (stop.Halted line)) = now.failures ≡ before.failures
-DeliveryCauses names before now (Err (stop.Read index)) = ⊥
-DeliveryCauses names before now (Err stop.Output) = (now.failures ≡ before.failures) × Rose before.count now.count
-DeliveryCauses names before now (Err (stop.Write index)) = FailedAt names index true before.failures now.failures
-DeliveryCauses names before now (Err stop.NoMemory) = now.failures ≡ before.failures
+abbrev pub DeliveryCauses : List (List ℕ) → World → World → Result (Unit {0}) Stop → Type 0
+DeliveryCauses names old new (Ok v) = new.failures ≡ old.failures
+DeliveryCauses names old new (Err (stop.Refused line)) = ⊥
+DeliveryCauses names old new (Err (stop.Halted line)) = new.failures ≡ old.failures
+DeliveryCauses names old new (Err (stop.Read index)) = ⊥
+DeliveryCauses names old new (Err stop.Output) = (new.failures ≡ old.failures) × Rose old.faults new.faults
+DeliveryCauses names old new (Err (stop.Write index)) = FailedAt names index true old.failures new.failures
+DeliveryCauses names old new (Err stop.NoMemory) = new.failures ≡ old.failures

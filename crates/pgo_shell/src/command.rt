@@ -1,7 +1,6 @@
 // A command as the shell sees it: which files it reads and writes, and what it makes of their texts.
-ghost use Rattle.std.specs.Prelude.{◌≡◌, IfErr, IfOk, List, None, length, slice_get, ℕ};
+ghost use Rattle.std.specs.Prelude.{◌≡◌, IfErr, IfOk, None, length, slice_get};
 ghost use Rattle.std.specs.Option.{option_map};
-ghost use Rattle.pgo_shell.specs.Verdict.{Gives, Verdict, judgement};
 
 use pgo_base::{Gate, NoMemory};
 use std::alloc::{AllocError, AllocFailed, Global};
@@ -58,25 +57,20 @@ impl From<NoMemory> for Refusal {
 
 /// A command with its arguments.
 pub trait Command {
-    ghost use Rattle.pgo_shell.specs.Product.{bytes_of_all, made_of};
-    ghost use Rattle.pgo_shell.specs.Judged.{RefusedAs};
+    ghost use Rattle.pgo_shell.specs.Product.{RefusedBy, bytes_of_all, made_of};
+    ghost use Rattle.pgo_shell.specs.Shell.{Task};
+    ghost use Rattle.std.specs.Thread.{IsSync};
 
-    /// The names of the files that it reads, in order.
-    ghost reads: { Self → List (List ℕ) };
-
-    /// The names of the files that it writes, in order.
-    ghost writes: { Self → List (List ℕ) };
-
-    /// What the texts of the files that it reads come to.
-    ghost judges: { Self → List (List ℕ) → Verdict → Type 0 };
+    /// The names of the files that it reads and writes, in order, and the judgement of the texts of those that it reads.
+    ghost task: { Self → Task };
 
     /// The name of the file that it reads at this place; None exactly behind the last.
     fn read_name(&self, index: usize) -> Option<&str>
-        ensures { option_map (λ name. name.now) result ≡ slice_get (reads self.now) index };
+        ensures { option_map (λ name. name.now) result ≡ slice_get (task self.now).reads index };
 
     /// The name of the file that it writes at this place; None exactly behind the last.
     fn write_name(&self, index: usize) -> Option<&str>
-        ensures { option_map (λ name. name.now) result ≡ slice_get (writes self.now) index };
+        ensures { option_map (λ name. name.now) result ≡ slice_get (task self.now).writes index };
 
     /// What it makes of the texts of its files. It touches nothing outside.
     fn product<R: Threads + Sync, G: Gate + Sync>(
@@ -86,11 +80,9 @@ pub trait Command {
         texts: &[Vec<u8>],
         gate: &G,
     ) -> Result<Product, Refusal>
-        requires { length texts.now ≡ length (reads self.now) }
-        ensures gives { IfOk result (λ product. judges self.now (bytes_of_all texts.now) (Gives (made_of product))) }
-        ensures refuses { IfErr result (RefusedAs (judges self.now (bytes_of_all texts.now))) }
-        ensures files { IfOk result (λ product. product.halted ≡ None → length product.files.items ≡ length (writes self.now)) };
-
-    /// The same texts end the command in one way.
-    ghost one_judgement: { (command : Self) (texts : List (List ℕ)) (v w : Verdict) → judges command texts v → judges command texts w → judgement v ≡ judgement w };
+        requires texts { length texts.now ≡ length (task self.now).reads }
+        requires threads { IsSync R.row }
+        ensures gives { IfOk result (λ product. ((task self.now).judges (bytes_of_all texts.now)).finds (made_of product)) }
+        ensures refuses { IfErr result (RefusedBy ((task self.now).judges (bytes_of_all texts.now))) }
+        ensures files { IfOk result (λ product. product.halted ≡ None → length product.files.items ≡ length (task self.now).writes) };
 }

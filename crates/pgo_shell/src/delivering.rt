@@ -2,6 +2,7 @@
 ghost use Rattle.std.specs.Prelude.{◌≡◌, None, length};
 ghost use Rattle.pgo_shell.specs.Product.{bytes_of_all, made_of};
 ghost use Rattle.pgo_shell.specs.Shell.{Delivered};
+ghost use Rattle.pgo_shell.specs.World.{world};
 ghost use Rattle.pgo_shell.specs.Steps.{DeliveryCauses, FilesLeft, OutputLeft, OutputRises, StopsWriting};
 
 use crate::{Command, Product, Stop};
@@ -14,13 +15,13 @@ pub fn deliver<C: Command, S: Store, O: Sink>(
     out: &mut O,
     product: Product,
 ) -> Result<(), Stop>
-    requires { product.halted ≡ None → length product.files.items ≡ length (C.writes command.now) }
+    requires { product.halted ≡ None → length product.files.items ≡ length (C.task command.now).writes }
     ensures store_tells { S.tells store.old → S.tells store.new }
     ensures out_tells { O.tells out.old → O.tells out.new }
-    ensures stands { S.tells store.old → O.tells out.old → Delivered (made_of product) (C.writes command.now)
-        (record { files = S.files store.old; put = O.bytes out.old }) (record { files = S.files store.new; put = O.bytes out.new }) result }
-    ensures causes { DeliveryCauses (C.writes command.now)
-        (record { failures = S.failures store.old; count = O.faults out.old }) (record { failures = S.failures store.new; count = O.faults out.new }) result }
+    ensures stands { Delivered (made_of product) (C.task command.now).writes
+        (world S.Store O.Sink store.old out.old) (world S.Store O.Sink store.new out.new) result }
+    ensures causes { DeliveryCauses (C.task command.now).writes
+        (world S.Store O.Sink store.old out.old) (world S.Store O.Sink store.new out.new) result }
 {
     let Product {
         halted,
@@ -53,10 +54,10 @@ fn write_files<C: Command, S: Store>(
     store: &mut S,
     files: &[Vec<u8>],
 ) -> Result<(), Stop>
-    requires { length files.now ≡ length (C.writes command.now) }
+    requires { length files.now ≡ length (C.task command.now).writes }
     ensures tells { S.tells store.old → S.tells store.new }
-    ensures left { S.tells store.old → FilesLeft (C.writes command.now) (bytes_of_all files.now) (S.files store.old) (S.files store.new) result }
-    ensures stops { StopsWriting (C.writes command.now) (S.failures store.old) (S.failures store.new) result }
+    ensures left { S.tells store.old → FilesLeft (C.task command.now).writes (bytes_of_all files.now) (S.files store.old) (S.files store.new) result }
+    ensures stops { StopsWriting (C.task command.now).writes (S.failures store.old) (S.failures store.new) result }
 {
     let mut index = 0;
     'files: while let Some(name) = command.write_name(index) {

@@ -35,7 +35,7 @@ fn put_piece<E: Sink>(err: &mut E, piece: &[u8]) -> bool
 
 /// What the line of a stop says, in two parts.
 pub fn parts_of<'a, C: Command>(command: &'a C, stop: &'a Stop) -> (&'a [u8], &'a [u8])
-    ensures { result.0.now ++ result.1.now ≡ said (record { reads = C.reads command.now; writes = C.writes command.now; judges = C.judges command.now }) stop.now }
+    ensures { result.0.now ++ result.1.now ≡ said (C.task command.now) stop.now }
 {
     match stop {
         Stop::Refused { line } => (line.as_slice(), b"".as_slice()),

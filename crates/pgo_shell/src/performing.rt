@@ -2,7 +2,8 @@
 ghost use Rattle.std.specs.Prelude.{◌≡◌, Err};
 ghost use Rattle.pgo_shell.specs.Shell.{Causes, Ran, status_of};
 ghost use Rattle.pgo_shell.specs.Ended.{Ended};
-ghost use Rattle.pgo_shell.specs.Promises.{DoneStands, IsStopped, NotReturnedStands, OutsideCause, RefusedStands, StatusComes, StoppedStands};
+ghost use Rattle.pgo_shell.specs.Promises.{Promises};
+ghost use Rattle.pgo_shell.specs.World.{world};
 
 use crate::delivering::deliver;
 use crate::message::{parts_of, say};
@@ -23,17 +24,9 @@ pub fn perform<R: Threads + Sync, C: Command, S: Store, O: Sink, E: Sink, G: Gat
     err: &mut E,
     gate: &G,
 ) -> Status
-    ensures ended { Ended (record { reads = C.reads command.now; writes = C.writes command.now; judges = C.judges command.now })
-        (S.tells store.old) (O.tells out.old) (E.tells err.old) (record { files = S.files store.old; put = O.bytes out.old }) (record { files = S.files store.new; put = O.bytes out.new })
-        (record { failures = S.failures store.old; count = O.faults out.old }) (record { failures = S.failures store.new; count = O.faults out.new })
-        (E.bytes err.old) (E.bytes err.new) result }
-    ensures done { S.tells store.old → O.tells out.old → DoneStands (record { reads = C.reads command.now; writes = C.writes command.now; judges = C.judges command.now }) (record { files = S.files store.old; put = O.bytes out.old }) (record { files = S.files store.new; put = O.bytes out.new }) result }
-    ensures refused { S.tells store.old → O.tells out.old → RefusedStands (record { reads = C.reads command.now; writes = C.writes command.now; judges = C.judges command.now }) (record { files = S.files store.old; put = O.bytes out.old }) (record { files = S.files store.new; put = O.bytes out.new }) result }
-    ensures not_returned { S.tells store.old → O.tells out.old → NotReturnedStands (record { reads = C.reads command.now; writes = C.writes command.now; judges = C.judges command.now }) (record { files = S.files store.old; put = O.bytes out.old }) (record { files = S.files store.new; put = O.bytes out.new }) result }
-    ensures stopped { S.tells store.old → O.tells out.old → IsStopped result → StoppedStands (record { reads = C.reads command.now; writes = C.writes command.now; judges = C.judges command.now }) (record { files = S.files store.old; put = O.bytes out.old }) (record { files = S.files store.new; put = O.bytes out.new }) }
-    ensures outside { OutsideCause (record { reads = C.reads command.now; writes = C.writes command.now; judges = C.judges command.now }) (record { failures = S.failures store.old; count = O.faults out.old }) (record { failures = S.failures store.new; count = O.faults out.new }) result }
-    ensures comes { S.tells store.old → O.tells out.old → StatusComes (record { reads = C.reads command.now; writes = C.writes command.now; judges = C.judges command.now }) (record { files = S.files store.old; put = O.bytes out.old }) (record { failures = S.failures store.old; count = O.faults out.old }) (record { failures = S.failures store.new; count = O.faults out.new }) result }
-    ensures words { result ≡ Status.Words → ⊥ }
+    ensures ended { Ended (C.task command.now) (world S.Store O.Sink store.old out.old) (world S.Store O.Sink store.new out.new)
+        (E.tells err.old) (E.bytes err.old) (E.bytes err.new) result }
+    ensures promises { Promises (C.task command.now) (world S.Store O.Sink store.old out.old) (world S.Store O.Sink store.new out.new) result }
 {
     end_of(rt, alloc, command, store, out, err, gate)
 }
@@ -48,10 +41,8 @@ fn end_of<R: Threads + Sync, C: Command, S: Store, O: Sink, E: Sink, G: Gate + S
     err: &mut E,
     gate: &G,
 ) -> Status
-    ensures { Ended (record { reads = C.reads command.now; writes = C.writes command.now; judges = C.judges command.now })
-        (S.tells store.old) (O.tells out.old) (E.tells err.old) (record { files = S.files store.old; put = O.bytes out.old }) (record { files = S.files store.new; put = O.bytes out.new })
-        (record { failures = S.failures store.old; count = O.faults out.old }) (record { failures = S.failures store.new; count = O.faults out.new })
-        (E.bytes err.old) (E.bytes err.new) result }
+    ensures { Ended (C.task command.now) (world S.Store O.Sink store.old out.old) (world S.Store O.Sink store.new out.new)
+        (E.tells err.old) (E.bytes err.old) (E.bytes err.new) result }
 {
     match run(rt, alloc, command, store, out, gate) {
         Ok(()) => Status::Done,
@@ -72,10 +63,8 @@ fn run<R: Threads + Sync, C: Command, S: Store, O: Sink, G: Gate + Sync>(
     out: &mut O,
     gate: &G,
 ) -> Result<(), Stop>
-    ensures ran { S.tells store.old → O.tells out.old → Ran (record { reads = C.reads command.now; writes = C.writes command.now; judges = C.judges command.now })
-        (record { files = S.files store.old; put = O.bytes out.old }) (record { files = S.files store.new; put = O.bytes out.new }) result }
-    ensures causes { Causes (record { reads = C.reads command.now; writes = C.writes command.now; judges = C.judges command.now })
-        (record { failures = S.failures store.old; count = O.faults out.old }) (record { failures = S.failures store.new; count = O.faults out.new }) result }
+    ensures ran { Ran (C.task command.now) (world S.Store O.Sink store.old out.old) (world S.Store O.Sink store.new out.new) result }
+    ensures causes { Causes (C.task command.now) (world S.Store O.Sink store.old out.old) (world S.Store O.Sink store.new out.new) result }
 {
     let texts = read_all(alloc, command, store)?;
     match command.product(rt, alloc, &texts, gate) {

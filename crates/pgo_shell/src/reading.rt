@@ -17,9 +17,9 @@ pub fn read_all<C: Command, S: Store>(
 ) -> Result<Vec<Vec<u8>>, Stop>
     ensures tells { S.tells store.old → S.tells store.new }
     ensures same { S.tells store.old → SameFiles (S.files store.old) (S.files store.new) }
-    ensures texts { S.tells store.old → IfOk result (λ texts. AreRead (S.files store.old) (C.reads command.now) (bytes_of_all texts.items)) }
-    ensures count { IfOk result (λ texts. length texts.items ≡ length (C.reads command.now)) }
-    ensures stops { StopsReading (C.reads command.now) (S.failures store.old) (S.failures store.new) result }
+    ensures texts { S.tells store.old → IfOk result (λ texts. AreRead (S.files store.old) (C.task command.now).reads (bytes_of_all texts.items)) }
+    ensures count { IfOk result (λ texts. length texts.items ≡ length (C.task command.now).reads) }
+    ensures stops { StopsReading (C.task command.now).reads (S.failures store.old) (S.failures store.new) result }
 {
     let mut texts = Vec::new(alloc);
     'files: while let Some(name) = command.read_name(texts.len()) {

@@ -1,4 +1,6 @@
 // How the program ends.
+ghost use Rattle.std.specs.Prelude.{◌≡◌};
+ghost use Rattle.pgo_shell.specs.Status.{number_of};
 
 /// The status that the program ends with.
 #[derive(Clone, Copy, Debug, PartialEq, Eq, Drop)]
@@ -15,4 +17,13 @@ pub enum Status {
     Outside = 4,
     /// There was no memory.
     Memory = 5,
+}
+
+impl Status {
+    /// The number that the process ends with.
+    pub fn number(self) -> u8
+        ensures { result ≡ number_of self }
+    {
+        self as u8
+    }
 }

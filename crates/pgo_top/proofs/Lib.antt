@@ -1,6 +1,1 @@
-mod RunLemmas
-mod Refusals
-mod PlanLemmas
-mod Graphs
-mod ReportLemmas
-mod ChainLemmas
+pub mod AskedLemmas

@@ -1,8 +1,2 @@
-pub mod Program
-pub mod Run
-pub mod Report
-pub mod Counted
-pub mod Chain
-pub mod Plan
-pub mod Says
-pub mod OneJudgement
+pub mod Asked
+pub mod Built

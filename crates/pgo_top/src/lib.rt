@@ -1,16 +1,13 @@
 //! The top call: a list of words, files and outputs to a status.
 #![tactic(auto)]
 
-mod chain;
-mod plan;
-mod program;
-mod report;
-mod run;
-mod text;
+mod built;
 mod top;
 
 pub use pgo_shell::Status;
-pub use top::pgo;
+pub use top::{no_memory, pgo, usage};
 
+#[cfg(test)]
+mod profile_tests;
 #[cfg(test)]
 mod tests;

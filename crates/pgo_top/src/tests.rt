@@ -94,10 +94,42 @@ fn perform<R: Threads + Sync>(
     Ok(Ended { status, out, err })
 }
 
+// What these words end with, where the calls text is `@g 3`.
+fn of_words<R: Threads + Sync>(
+    rt: &R,
+    alloc: Global,
+    words: &[&str],
+    module: &[u8],
+) -> Result<Ended, Fail> {
+    let words = words_of(alloc, words)?;
+    let mut store = store_of(alloc, module, b"@g 3", Vec::new(alloc))?;
+    let mut out = NeverSink::new(alloc)?;
+    let mut err = NeverSink::new(alloc)?;
+    let status = pgo(
+        rt,
+        alloc,
+        words.as_slice(),
+        &mut store,
+        &mut out,
+        &mut err,
+        &QuietGate,
+    );
+    Ok(Ended { status, out, err })
+}
+
+// Adds one twice, and returns.
+const THREE_STEPS: &[u8] = b"define i64 @g(i64 %n) {
+entry:
+  %a = add i64 %n, 1
+  %b = add i64 %a, 1
+  ret i64 %b
+}
+";
+
 #[test]
 fn words_without_a_plan_name_the_usage(rt: HostRuntime) -> Result<(), Fail> {
     let alloc = rt.alloc();
-    let lists: [&[&str]; 7] = [
+    let lists: [&[&str]; 12] = [
         &[],
         &["fly"],
         &["fly", "m.ll", "c.txt"],
@@ -105,6 +137,12 @@ fn words_without_a_plan_name_the_usage(rt: HostRuntime) -> Result<(), Fail> {
         &["run", "m.ll", "c.txt", "x"],
         &["run", "m.ll", ""],
         &["run", "-m", "c.txt"],
+        // The work of these is not built.
+        &["print", "m.ll"],
+        &["run", "m.ll", "c.txt", "--workers", "2"],
+        &["run", "m.ll", "c.txt", "--profile", "p"],
+        &["chain", "m.ll", "c.txt", "p", "o"],
+        &["stream", "m.ll", "c.txt"],
     ];
     for list in lists {
         let words = words_of(alloc, list)?;
@@ -140,6 +178,32 @@ fn run_prints_the_outcomes_of_its_calls(rt: HostRuntime) -> Result<(), Fail> {
         b"call 0 @g\n4\nreturned 4\ncall 1 @g\nreturned 12\n".as_slice()
     );
     assert_eq!(rt; ended.err.bytes(), b"".as_slice());
+    Ok(())
+}
+
+#[test]
+fn check_prints_the_kind(rt: HostRuntime) -> Result<(), Fail> {
+    let alloc = rt.alloc();
+    let ended = of_words(&rt, alloc, &["check", "m.ll"], SUCCESSOR)?;
+    assert_eq!(rt; ended.status, Status::Done);
+    assert_eq!(rt; ended.out.bytes(), b"plain\n".as_slice());
+    let ended = of_words(&rt, alloc, &["check", "m.ll"], b"nothing")?;
+    assert_eq!(rt; ended.status, Status::Refused);
+    assert_eq!(rt; ended.err.bytes(), b"pgo: m.ll: not built\n".as_slice());
+    Ok(())
+}
+
+// The third step of this call is its return.
+#[test]
+fn a_call_is_given_as_many_steps_as_the_words_say(rt: HostRuntime) -> Result<(), Fail> {
+    let alloc = rt.alloc();
+    let enough = ["run", "--steps=3", "m.ll", "c.txt"];
+    let ended = of_words(&rt, alloc, &enough, THREE_STEPS)?;
+    assert_eq!(rt; ended.status, Status::Done);
+    let few = ["run", "m.ll", "c.txt", "--steps", "2"];
+    let ended = of_words(&rt, alloc, &few, THREE_STEPS)?;
+    assert_eq!(rt; ended.status, Status::NotReturned);
+    assert_eq!(rt; ended.err.bytes(), b"pgo: call 0 steps spent\n".as_slice());
     Ok(())
 }
 

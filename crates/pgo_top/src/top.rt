@@ -1,21 +1,30 @@
 // The top call.
-ghost use Rattle.std.specs.Prelude.{◌≡◌, ℕ, List, None, Some};
+ghost use Rattle.std.specs.Prelude.{◌≡◌, ◌⊎◌, IfOk, IsErrOf, Some, None, codes};
+ghost use Rattle.command_chain.specs.Chain.{ChainStands};
+ghost use Rattle.command_check.specs.Check.{CheckStands};
+ghost use Rattle.command_merge.specs.Merge.{MergeStands};
+ghost use Rattle.command_run.specs.Run.{RunStands};
+ghost use Rattle.command_show.specs.Show.{ShowStands};
 ghost use Rattle.pgo_shell.specs.Ended.{Ended};
-ghost use Rattle.pgo_shell.specs.Promises.{DoneStands, IsStopped, NotReturnedStands, OutsideCause, RefusedStands, StatusComes, StoppedStands};
-ghost use Rattle.pgo_shell.specs.Shell.{Front};
-ghost use Rattle.pgo_top.specs.Plan.{Chains, Runs, planned, task_of, usage_line, words_of};
-ghost use Rattle.pgo_top.specs.Chain.{ChainStands};
-ghost use Rattle.pgo_top.specs.Run.{RunStands};
+ghost use Rattle.pgo_shell.specs.Promises.{Promises};
+ghost use Rattle.pgo_shell.specs.Shell.{Front, error_line};
+ghost use Rattle.pgo_shell.specs.World.{world};
+ghost use Rattle.pgo_top.specs.Asked.{AsksChain, AsksCheck, AsksMerge, AsksRun, AsksShow, asked, task_of, usage_line};
+ghost use Rattle.pgo_top.specs.Built.{asked_value};
+ghost use Rattle.pgo_words.specs.Plan.{words_of};
 
-use crate::plan::{WordsError, plan_of};
+use crate::built::{Built, command_for};
 use pgo_base::{Gate, Sink, Store};
 use pgo_shell::{Status, perform, say};
+use pgo_words::{WordsError, plan_of};
 use std::alloc::Global;
 use std::thread::Threads;
 
-/// Runs the command that the words give: it reads the command's files, puts its output on `out` and writes its files,
-/// and puts the one line on `err` that says why it ends where that isn't `Done`. Where the words give no plan the status
-/// is `Words`, the line names the usage, and nothing is read or written.
+/// Runs the command that the words ask for over the files of `store`, with its output to `out` and a line on `err` for
+/// each status but `Done`.
+///
+/// `Words` comes exactly where the words ask for no command that is built. Every other status is that of the command's
+/// end: what its files hold decides it, unless a file or the output fails (`Outside`) or memory runs out (`Memory`).
 pub fn pgo<R: Threads + Sync, S: Store, O: Sink, E: Sink, G: Gate + Sync>(
     rt: &R,
     alloc: Global,
@@ -25,40 +34,97 @@ pub fn pgo<R: Threads + Sync, S: Store, O: Sink, E: Sink, G: Gate + Sync>(
     err: &mut E,
     gate: &G,
 ) -> Status
-    // `Words` comes exactly where there is no plan, and then nothing is touched.
-    ensures words { planned (words_of words.now) ≡ None → result ≡ Status.Words }
-    ensures plan { (plan : _) → planned (words_of words.now) ≡ Some plan → result ≡ Status.Words → ⊥ }
-    ensures store_stays { planned (words_of words.now) ≡ None → store.new ≡ store.old }
-    ensures out_stays { planned (words_of words.now) ≡ None → out.new ≡ out.old }
-    ensures usage { planned (words_of words.now) ≡ None → E.tells err.old → Front usage_line (E.bytes err.old) (E.bytes err.new) }
-    // One end ties the status of a plan, what stands after it, its cause and its line.
-    ensures ended { (plan : _) → planned (words_of words.now) ≡ Some plan → Ended (task_of plan) (S.tells store.old) (O.tells out.old) (E.tells err.old)
-        (record { files = S.files store.old; put = O.bytes out.old }) (record { files = S.files store.new; put = O.bytes out.new })
-        (record { failures = S.failures store.old; count = O.faults out.old }) (record { failures = S.failures store.new; count = O.faults out.new })
-        (E.bytes err.old) (E.bytes err.new) result }
-    // What stands after each status.
-    ensures done { (plan : _) → planned (words_of words.now) ≡ Some plan → S.tells store.old → O.tells out.old → DoneStands (task_of plan) (record { files = S.files store.old; put = O.bytes out.old }) (record { files = S.files store.new; put = O.bytes out.new }) result }
-    ensures refused { (plan : _) → planned (words_of words.now) ≡ Some plan → S.tells store.old → O.tells out.old → RefusedStands (task_of plan) (record { files = S.files store.old; put = O.bytes out.old }) (record { files = S.files store.new; put = O.bytes out.new }) result }
-    ensures not_returned { (plan : _) → planned (words_of words.now) ≡ Some plan → S.tells store.old → O.tells out.old → NotReturnedStands (task_of plan) (record { files = S.files store.old; put = O.bytes out.old }) (record { files = S.files store.new; put = O.bytes out.new }) result }
-    ensures stopped { (plan : _) → planned (words_of words.now) ≡ Some plan → S.tells store.old → O.tells out.old → IsStopped result → StoppedStands (task_of plan) (record { files = S.files store.old; put = O.bytes out.old }) (record { files = S.files store.new; put = O.bytes out.new }) }
+    // Where the words ask for no command, nothing is touched.
+    ensures words { asked (words_of words.now) ≡ None → (result ≡ Status.Words) ⊎ (result ≡ Status.Memory) }
+    ensures command { result ≡ Status.Words → asked (words_of words.now) ≡ None }
+    ensures store_stays { asked (words_of words.now) ≡ None → store.new ≡ store.old }
+    ensures out_stays { asked (words_of words.now) ≡ None → out.new ≡ out.old }
+    ensures usage { result ≡ Status.Words → E.tells err.old → Front usage_line (E.bytes err.old) (E.bytes err.new) }
+    // One end ties the status of a command, what stands after it, its cause and its line; then what each promises.
+    ensures ended { (c : _) → asked (words_of words.now) ≡ Some c → Ended (task_of c)
+        (world S.Store O.Sink store.old out.old) (world S.Store O.Sink store.new out.new)
+        (E.tells err.old) (E.bytes err.old) (E.bytes err.new) result }
+    ensures promises { (c : _) → asked (words_of words.now) ≡ Some c → Promises (task_of c)
+        (world S.Store O.Sink store.old out.old) (world S.Store O.Sink store.new out.new) result }
+    // After a `check` that is `Done`: the kind of the program.
+    ensures check { (f : _) → asked (words_of words.now) ≡ Some (AsksCheck f) → result ≡ Status.Done →
+        S.tells store.old →
+        CheckStands f (world S.Store O.Sink store.old out.old) (world S.Store O.Sink store.new out.new) }
     // After a `run` that is `Done`: the outcomes of its calls on the program, all of them returned.
-    ensures run { (file calls : List ℕ) → planned (words_of words.now) ≡ Some (Runs file calls) → S.tells store.old → O.tells out.old → result ≡ Status.Done → RunStands file calls (record { files = S.files store.old; put = O.bytes out.old }) (record { files = S.files store.new; put = O.bytes out.new }) }
-    // After a `chain` that is `Done`: these outcomes, and then the report, in which each edge of each defined function has the
-    // number of times that the calls' runs walk it.
-    ensures chain { (file calls : List ℕ) → planned (words_of words.now) ≡ Some (Chains file calls) → S.tells store.old → O.tells out.old → result ≡ Status.Done → ChainStands file calls (record { files = S.files store.old; put = O.bytes out.old }) (record { files = S.files store.new; put = O.bytes out.new }) }
-    // `Outside` comes only where a fault rose; where none did, the texts decide which status comes.
-    ensures outside { (plan : _) → planned (words_of words.now) ≡ Some plan → OutsideCause (task_of plan) (record { failures = S.failures store.old; count = O.faults out.old }) (record { failures = S.failures store.new; count = O.faults out.new }) result }
-    ensures comes { (plan : _) → planned (words_of words.now) ≡ Some plan → S.tells store.old → O.tells out.old → StatusComes (task_of plan) (record { files = S.files store.old; put = O.bytes out.old }) (record { failures = S.failures store.old; count = O.faults out.old }) (record { failures = S.failures store.new; count = O.faults out.new }) result }
+    ensures run { (f : _) → asked (words_of words.now) ≡ Some (AsksRun f) → result ≡ Status.Done →
+        S.tells store.old →
+        RunStands f (world S.Store O.Sink store.old out.old) (world S.Store O.Sink store.new out.new) }
+    // After a `chain` that is `Done`: these outcomes, and then the report, in which each edge of each defined function
+    // has the number of times that the calls' runs walk it.
+    ensures chain { (f : _) → asked (words_of words.now) ≡ Some (AsksChain f) → result ≡ Status.Done →
+        S.tells store.old →
+        ChainStands f (world S.Store O.Sink store.old out.old) (world S.Store O.Sink store.new out.new) }
+    // After a `merge` that is `Done`: its file holds the text of the merge of the profiles.
+    ensures merge { (f : _) → asked (words_of words.now) ≡ Some (AsksMerge f) → result ≡ Status.Done →
+        S.tells store.old →
+        MergeStands f (world S.Store O.Sink store.old out.old) (world S.Store O.Sink store.new out.new) }
+    // After a `show` that is `Done`: the totals of the profile.
+    ensures show { (f : _) → asked (words_of words.now) ≡ Some (AsksShow f) → result ≡ Status.Done →
+        S.tells store.old →
+        ShowStands f (world S.Store O.Sink store.old out.old) (world S.Store O.Sink store.new out.new) }
 {
-    match plan_of(alloc, words) {
-        Ok(plan) => perform(rt, alloc, &plan, store, out, err, gate),
-        Err(WordsError::Usage) => {
-            say(err, b"usage: pgo COMMAND ARGUMENTS", b"");
-            Status::Words
-        }
-        Err(WordsError::NoMemory) => {
-            say(err, b"out of memory", b"");
-            Status::Memory
-        }
+    perform_words(rt, alloc, words, store, out, err, gate)
+}
+
+// The same, with what holds of every command.
+fn perform_words<R: Threads + Sync, S: Store, O: Sink, E: Sink, G: Gate + Sync>(
+    rt: &R,
+    alloc: Global,
+    words: &[String],
+    store: &mut S,
+    out: &mut O,
+    err: &mut E,
+    gate: &G,
+) -> Status
+    ensures words { asked (words_of words.now) ≡ None → (result ≡ Status.Words) ⊎ (result ≡ Status.Memory) }
+    ensures command { result ≡ Status.Words → asked (words_of words.now) ≡ None }
+    ensures store_stays { asked (words_of words.now) ≡ None → store.new ≡ store.old }
+    ensures out_stays { asked (words_of words.now) ≡ None → out.new ≡ out.old }
+    ensures usage { result ≡ Status.Words → E.tells err.old → Front usage_line (E.bytes err.old) (E.bytes err.new) }
+    ensures ended { (c : _) → asked (words_of words.now) ≡ Some c → Ended (task_of c)
+        (world S.Store O.Sink store.old out.old) (world S.Store O.Sink store.new out.new)
+        (E.tells err.old) (E.bytes err.old) (E.bytes err.new) result }
+    ensures promises { (c : _) → asked (words_of words.now) ≡ Some c → Promises (task_of c)
+        (world S.Store O.Sink store.old out.old) (world S.Store O.Sink store.new out.new) result }
+{
+    match command_of(alloc, words) {
+        Ok(command) => perform(rt, alloc, &command, store, out, err, gate),
+        Err(WordsError::Usage) => usage(err),
+        Err(WordsError::NoMemory) => no_memory(err),
     }
+}
+
+// The command that the words ask for.
+fn command_of(alloc: Global, words: &[String]) -> Result<Built, WordsError>
+    ensures command { IfOk result (λ c. asked (words_of words.now) ≡ Some (asked_value c)) }
+    ensures usage { IsErrOf result WordsError.Usage → asked (words_of words.now) ≡ None }
+{
+    let plan = plan_of(alloc, words)?;
+    match command_for(plan) {
+        Some(command) => Ok(command),
+        None => Err(WordsError::Usage),
+    }
+}
+
+/// Says how the program is used, and answers `Words`.
+pub fn usage<E: Sink>(err: &mut E) -> Status
+    ensures status { result ≡ Status.Words }
+    ensures line { E.tells err.old → Front usage_line (E.bytes err.old) (E.bytes err.new) }
+{
+    say(err, b"usage: pgo COMMAND ARGUMENTS", b"");
+    Status::Words
+}
+
+/// Says that there was no memory, and answers `Memory`.
+pub fn no_memory<E: Sink>(err: &mut E) -> Status
+    ensures status { result ≡ Status.Memory }
+    ensures line { E.tells err.old → Front (error_line (codes "out of memory")) (E.bytes err.old) (E.bytes err.new) }
+{
+    say(err, b"out of memory", b"");
+    Status::Memory
 }

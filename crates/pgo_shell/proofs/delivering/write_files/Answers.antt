@@ -10,7 +10,7 @@ use Rattle.pgo_shell.proofs.delivering.write_files.Goals as goal
 
 pub files-preserved : goal.files-preserved
 files-preserved g c =
-    let names : List (List ℕ) = g.C.Command.writes c.args.command.now in
+    let names : List (List ℕ) = (g.C.Command.task c.args.command.now).writes in
     let here : slice_get names c.files.index ≡ Some c.in-Some.name.now = sym c.in-Some.ensures in
     let within : c.files.index < length names = slice_get_within names c.files.index c.in-Some.name.now here in
     let in_files : c.files.index < length c.args.files.now = omega (arith, within, c.requires) in
@@ -29,4 +29,4 @@ files-preserved g c =
 
 pub returns-clause-left : goal.returns-clause-left
 returns-clause-left g c told =
-    all_written (g.C.Command.writes c.args.command.now) (bytes_of_all c.args.files.now) c.files.index (g.S.Store.files c.args.store.now) (g.S.Store.files c.files.store) (at_the_end _ c.files.index (sym c.in_default.ensures) c.files.invariant.within) (c.files.invariant.written told)
+    all_written (g.C.Command.task c.args.command.now).writes (bytes_of_all c.args.files.now) c.files.index (g.S.Store.files c.args.store.now) (g.S.Store.files c.files.store) (at_the_end _ c.files.index (sym c.in_default.ensures) c.files.invariant.within) (c.files.invariant.written told)

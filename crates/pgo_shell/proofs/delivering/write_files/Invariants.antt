@@ -7,11 +7,11 @@ use Rattle.pgo_shell.proofs.delivering.write_files.Given as goal
 
 abbrev pub invariant-files : goal.invariant-files
 invariant-files g l = record {
-  within : l.index ≤ length (g.C.Command.writes l.command);
+  within : l.index ≤ length (g.C.Command.task l.command).writes;
   tells : g.S.Store.tells l.initial.store → g.S.Store.tells l.store;
-  written : g.S.Store.tells l.initial.store → SameFiles (after_first l.index (g.C.Command.writes l.command) (bytes_of_all l.files) (g.S.Store.files l.initial.store)) (g.S.Store.files l.store);
+  written : g.S.Store.tells l.initial.store → SameFiles (after_first l.index (g.C.Command.task l.command).writes (bytes_of_all l.files) (g.S.Store.files l.initial.store)) (g.S.Store.files l.store);
   quiet : g.S.Store.failures l.store ≡ g.S.Store.failures l.initial.store;
 }
 
 abbrev pub decreases-files : goal.decreases-files
-decreases-files g l = length (g.C.Command.writes l.command) - l.index
+decreases-files g l = length (g.C.Command.task l.command).writes - l.index

@@ -6,10 +6,10 @@ use Rattle.pgo_shell.proofs.reading.read_all.Goals as goal
 
 pub files-preserved : goal.files-preserved
 files-preserved g c =
-    let here : slice_get (g.C.Command.reads c.args.command.now) (vec_len c.files.texts) ≡ Some c.in-Some.name.now = rw c.len.ensures at (sym c.in-Some.ensures) in
-    let here_again : slice_get (g.C.Command.reads c.args.command.now) c.len-in-Some.result ≡ Some c.in-Some.name.now = rw c.len-in-Some.ensures here in
+    let here : slice_get (g.C.Command.task c.args.command.now).reads (vec_len c.files.texts) ≡ Some c.in-Some.name.now = rw c.len.ensures at (sym c.in-Some.ensures) in
+    let here_again : slice_get (g.C.Command.task c.args.command.now).reads c.len-in-Some.result ≡ Some c.in-Some.name.now = rw c.len-in-Some.ensures here in
     record {
-      within = omega (arith, c.in_ok-push.ensures.len, slice_get_within (g.C.Command.reads c.args.command.now) (vec_len c.files.texts) c.in-Some.name.now here);
+      within = omega (arith, c.in_ok-push.ensures.len, slice_get_within (g.C.Command.task c.args.command.now).reads (vec_len c.files.texts) c.in-Some.name.now here);
       tells = λ told. c.in_ok-text.ensures.tells (c.files.invariant.tells told);
       same = λ told name. c.in_ok-text.ensures.same (c.files.invariant.tells told) name ∙ c.files.invariant.same told name;
       read = λ told. rw c.in_ok-push.ensures.len (one_more_read (g.S.Store.files c.args.store.now) (g.S.Store.files c.files.store) _ (vec_len c.files.texts) _ c.files.texts.items _ c.in_ok-text.text

@@ -1,64 +1,23 @@
-use Rattle.std.proofs.Common.{refl, inl, Err}
-use Rattle.pgo_shell.specs.Promises.{DoneStands, NotReturnedStands, OutsideCause, StatusComes, StoppedStands}
-use Rattle.pgo_shell.specs.Shell.{Faults, World}
-use Rattle.pgo_shell.specs.declared.stop.Stop.TheVariants as stop
-use Rattle.pgo_top.specs.Plan.{Chains, Runs, plan_value, planned, task_of, words_of}
-use Rattle.pgo_top.proofs.PlanLemmas.{by_plan, chain_stands, run_stands}
+-- A command that is `Done`, in its own words.
+use Rattle.command_chain.specs.Laws.{chain_stands}
+use Rattle.command_check.specs.Laws.{check_stands}
+use Rattle.command_merge.specs.Laws.{merge_stands}
+use Rattle.command_run.specs.Laws.{run_stands}
+use Rattle.command_show.specs.Laws.{show_stands}
+use Rattle.pgo_top.specs.Asked as asked
 use Rattle.pgo_top.proofs.top.pgo.Goals as goal
 
-pub returns-in-Ok-clause-done : goal.returns-in-Ok-clause-done
-returns-in-Ok-clause-done g c plan is tells shows =
-    let old : World = record { files = g.S.Store.files c.args.store.now; put = g.O.Sink.bytes c.args.out.now } in
-    let new : World = record { files = g.S.Store.files c.perform.new.store; put = g.O.Sink.bytes c.perform.new.out } in
-    by_plan (λ p. DoneStands (task_of p) old new c.perform.result) (planned (words_of c.args.words.now)) (plan_value c.in-Ok.plan) plan c.in-Ok.ensures.plan is
-    (c.perform.ensures.done tells shows)
+pub returns-clause-check : goal.returns-clause-check
+returns-clause-check g c f is done told = check_stands f _ _ told ((c.perform_words.ensures.promises (asked.AsksCheck f) is).done done told)
 
-pub returns-in-Ok-clause-not_returned : goal.returns-in-Ok-clause-not_returned
-returns-in-Ok-clause-not_returned g c plan is tells shows =
-    let old : World = record { files = g.S.Store.files c.args.store.now; put = g.O.Sink.bytes c.args.out.now } in
-    let new : World = record { files = g.S.Store.files c.perform.new.store; put = g.O.Sink.bytes c.perform.new.out } in
-    by_plan (λ p. NotReturnedStands (task_of p) old new c.perform.result) (planned (words_of c.args.words.now)) (plan_value c.in-Ok.plan) plan c.in-Ok.ensures.plan is
-    (c.perform.ensures.not_returned tells shows)
+pub returns-clause-run : goal.returns-clause-run
+returns-clause-run g c f is done told = run_stands f _ _ told ((c.perform_words.ensures.promises (asked.AsksRun f) is).done done told)
 
-pub returns-in-Ok-clause-stopped : goal.returns-in-Ok-clause-stopped
-returns-in-Ok-clause-stopped g c plan is tells shows stops =
-    let old : World = record { files = g.S.Store.files c.args.store.now; put = g.O.Sink.bytes c.args.out.now } in
-    let new : World = record { files = g.S.Store.files c.perform.new.store; put = g.O.Sink.bytes c.perform.new.out } in
-    by_plan (λ p. StoppedStands (task_of p) old new) (planned (words_of c.args.words.now)) (plan_value c.in-Ok.plan) plan c.in-Ok.ensures.plan is
-    (c.perform.ensures.stopped tells shows stops)
+pub returns-clause-chain : goal.returns-clause-chain
+returns-clause-chain g c f is done told = chain_stands f _ _ told ((c.perform_words.ensures.promises (asked.AsksChain f) is).done done told)
 
-pub returns-in-Ok-clause-run : goal.returns-in-Ok-clause-run
-returns-in-Ok-clause-run g c file calls is tells shows =
-    let old : World = record { files = g.S.Store.files c.args.store.now; put = g.O.Sink.bytes c.args.out.now } in
-    let new : World = record { files = g.S.Store.files c.perform.new.store; put = g.O.Sink.bytes c.perform.new.out } in
-    run_stands file calls old new c.perform.result (returns-in-Ok-clause-done g c (Runs file calls) is tells shows)
+pub returns-clause-merge : goal.returns-clause-merge
+returns-clause-merge g c f is done told = merge_stands f _ _ told ((c.perform_words.ensures.promises (asked.AsksMerge f) is).done done told)
 
-pub returns-in-Ok-clause-chain : goal.returns-in-Ok-clause-chain
-returns-in-Ok-clause-chain g c file calls is tells shows =
-    let old : World = record { files = g.S.Store.files c.args.store.now; put = g.O.Sink.bytes c.args.out.now } in
-    let new : World = record { files = g.S.Store.files c.perform.new.store; put = g.O.Sink.bytes c.perform.new.out } in
-    chain_stands file calls old new c.perform.result (returns-in-Ok-clause-done g c (Chains file calls) is tells shows)
-
-pub returns-in-Ok-clause-outside : goal.returns-in-Ok-clause-outside
-returns-in-Ok-clause-outside g c plan is =
-    let before : Faults = record { failures = g.S.Store.failures c.args.store.now; count = g.O.Sink.faults c.args.out.now } in
-    let now : Faults = record { failures = g.S.Store.failures c.perform.new.store; count = g.O.Sink.faults c.perform.new.out } in
-    by_plan (λ p. OutsideCause (task_of p) before now c.perform.result) (planned (words_of c.args.words.now)) (plan_value c.in-Ok.plan) plan c.in-Ok.ensures.plan is
-    c.perform.ensures.outside
-
-pub returns-in-Ok-clause-comes : goal.returns-in-Ok-clause-comes
-returns-in-Ok-clause-comes g c plan is tells shows =
-    let old : World = record { files = g.S.Store.files c.args.store.now; put = g.O.Sink.bytes c.args.out.now } in
-    let before : Faults = record { failures = g.S.Store.failures c.args.store.now; count = g.O.Sink.faults c.args.out.now } in
-    let now : Faults = record { failures = g.S.Store.failures c.perform.new.store; count = g.O.Sink.faults c.perform.new.out } in
-    by_plan (λ p. StatusComes (task_of p) old before now c.perform.result) (planned (words_of c.args.words.now)) (plan_value c.in-Ok.plan) plan c.in-Ok.ensures.plan is
-    (c.perform.ensures.comes tells shows)
-
-pub returns-in-Err-NoMemory-clause-ended : goal.returns-in-Err-NoMemory-clause-ended
-returns-in-Err-NoMemory-clause-ended g c plan is = record {
-  end = Err stop.NoMemory;
-  status_is = refl;
-  ran = λ tells shows. inl (refl, λ name. refl);
-  causes = refl;
-  line_is = c.say-in-Err-NoMemory.ensures.line;
-}
+pub returns-clause-show : goal.returns-clause-show
+returns-clause-show g c f is done told = show_stands f _ _ told ((c.perform_words.ensures.promises (asked.AsksShow f) is).done done told)

@@ -1,0 +1,6 @@
+//! The command `merge`: profiles merged into one.
+#![tactic(auto)]
+
+mod merging;
+
+pub use merging::Merge;

@@ -1,0 +1,3 @@
+mod MergeLemmas
+mod EachLemmas
+mod FileLemmas

@@ -1,0 +1,4 @@
+pub mod Run
+pub mod RunFiles
+pub mod OutcomeLaws
+pub mod Laws

@@ -1,0 +1,5 @@
+pub mod Program
+pub mod CallsLines
+pub mod CallsLaws
+pub mod Calls
+pub mod Says

@@ -1,0 +1,11 @@
+-- What a refusal of the code says.
+use Rattle.std.specs.Prelude.{◌≡◌, ℕ, List, ⊤}
+use Rattle.call_list.specs.declared.error.CallsError.{CallsError}
+use Rattle.pgo_shell.specs.declared.command.Refusal.{Refusal}
+use Rattle.pgo_shell.specs.declared.command.Refusal.TheVariants as refusal
+use Rattle.command_texts.specs.CallsLines.{OfText, calls_line}
+
+-- it says why the calls text is refused, unless memory ran out
+abbrev pub SaysCalls : List ℕ → CallsError → Refusal → Type 0
+SaysCalls file error (refusal.Text line) = OfText error × (line.items ≡ calls_line file error)
+SaysCalls file error refusal.NoMemory = ⊤

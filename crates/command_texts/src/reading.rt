@@ -1,0 +1,109 @@
+// The program and the calls that a command reads, and the lines that say why it has none.
+ghost use Rattle.std.specs.Prelude.{◌≡◌, IfErr, IfNone, IfOk, IfSome, OnOk};
+ghost use Rattle.ir_check.specs.Accepted.{IsAccepted};
+ghost use Rattle.ir_model.specs.Run.{IsValidCallList};
+ghost use Rattle.ir_tree.specs.declared.types.Module.{Module};
+ghost use Rattle.pgo_shell.specs.Product.{RefusedBy};
+ghost use Rattle.command_texts.specs.Calls.{MakesCalls, calls_on};
+ghost use Rattle.command_texts.specs.Program.{IsProgram, IsTheProgram, program, runs_as_it_is};
+ghost use Rattle.command_texts.specs.Says.{SaysCalls};
+
+use call_list::{CallsError, read_calls};
+use command_lines::{refused, refused_at};
+use ir_check::{CheckError, Checked, check};
+use ir_machine::{Code, ResolveError, resolve};
+use ir_model::Call;
+use ir_read::{ReadError, read};
+use ir_tree::Module;
+use pgo_base::NoMemory;
+use pgo_shell::Refusal;
+use std::alloc::Global;
+
+/// The program that a module's text is. A text that is too long or that spells no accepted module is refused.
+pub fn program(alloc: Global, name: &str, text: &[u8]) -> Result<Checked, Refusal>
+    ensures found { IfOk result (λ m. (program name.now text.now).finds m) }
+    ensures refuses { IfErr result (RefusedBy (program name.now text.now)) }
+{
+    match program_of(alloc, text)? {
+        Some(module) => Ok(module),
+        None => Err(refused(alloc, name, b": not built")),
+    }
+}
+
+/// The code of a program. One that counts by intrinsics is refused.
+pub fn code<'a>(alloc: Global, name: &str, module: &'a Checked) -> Result<Code<'a>, Refusal>
+    ensures code { IfOk result (λ code. code ≡ «module».now) }
+    ensures found { IfOk result (λ _. (runs_as_it_is name.now «module».now).finds tt) }
+    ensures refuses { IfErr result (RefusedBy (runs_as_it_is name.now «module».now)) }
+{
+    match resolve(alloc, module) {
+        Ok(code) => Ok(code),
+        Err(ResolveError::NoMemory) => Err(Refusal::NoMemory),
+        Err(ResolveError::WrongKind) => Err(refused(alloc, name, b": wrong kind counted")),
+    }
+}
+
+/// The calls that a calls text makes on a program.
+pub fn calls(alloc: Global, name: &str, module: &Checked, text: &[u8]) -> Result<Vec<Call>, Refusal>
+    ensures found { IfOk result (λ calls. (calls_on name.now «module».now text.now).finds calls.items) }
+    ensures valid { IfOk result (λ calls. IsValidCallList «module».now calls.items) }
+    ensures refuses { IfErr result (RefusedBy (calls_on name.now «module».now text.now)) }
+{
+    match read_calls(alloc, module, text) {
+        Ok(calls) => Ok(calls),
+        Err(error) => Err(refused_calls(alloc, name, error)),
+    }
+}
+
+// The program that the text spells, and None exactly where it is too long or spells no accepted module.
+fn program_of(alloc: Global, text: &[u8]) -> Result<Option<Checked>, NoMemory>
+    ensures some { IfOk result (λ found. IfSome found (λ m. IsTheProgram text.now m)) }
+    ensures none { IfOk result (λ found. IfNone found ((m : Module) → IsProgram text.now m → ⊥)) }
+{
+    match read(alloc, text) {
+        Ok(module) => accepted(alloc, module),
+        Err(error) => {
+            of_text(error)?;
+            Ok(None)
+        }
+    }
+}
+
+// The error is one of the text itself, and not want of memory.
+fn of_text(error: ReadError) -> Result<(), NoMemory>
+    ensures { OnOk result (error ≡ ReadError.NoMemory → ⊥) }
+{
+    match error {
+        ReadError::Syntax { .. } => Ok(()),
+        ReadError::TextLimit { .. } => Ok(()),
+        ReadError::NoMemory => Err(NoMemory),
+    }
+}
+
+// The module, if it is accepted.
+fn accepted(alloc: Global, module: Module) -> Result<Option<Checked>, NoMemory>
+    ensures some { IfOk result (λ found. IfSome found (λ m. (m ≡ «module») × IsAccepted m)) }
+    ensures none { IfOk result (λ found. IfNone found (IsAccepted «module» → ⊥)) }
+{
+    match check(alloc, module) {
+        Ok(checked) => Ok(Some(checked)),
+        Err(refused) => match refused.why {
+            CheckError::NoMemory => Err(NoMemory),
+            CheckError::Unbuilt | CheckError::Limit { .. } | CheckError::Broken { .. } => Ok(None),
+        },
+    }
+}
+
+// The refusal of a calls text.
+fn refused_calls(alloc: Global, name: &str, error: CallsError) -> Refusal
+    ensures { SaysCalls name.now error result }
+{
+    match error {
+        CallsError::BadLine { line } => refused_at(alloc, name, b": bad line ", line),
+        CallsError::NoFunction { line } => refused_at(alloc, name, b": no function in line ", line),
+        CallsError::BadArgs { line } => refused_at(alloc, name, b": bad arguments in line ", line),
+        CallsError::TooMany { .. } => refused(alloc, name, b": too many calls"),
+        CallsError::TextLimit { .. } => refused(alloc, name, b": too long"),
+        CallsError::NoMemory => Refusal::NoMemory,
+    }
+}
