@@ -8,7 +8,7 @@ ghost use Rattle.pgo_shell.specs.Product.{RefusedBy, bytes_of, made_of};
 ghost use Rattle.command_chain.specs.Chain.{ChainMakes, chain_judgement};
 ghost use Rattle.command_chain.specs.ChainFiles.{files_of};
 ghost use Rattle.command_chain.specs.Counted.{AreWalks};
-ghost use Rattle.command_run.specs.Run.{first_unreturned, outcomes};
+ghost use Rattle.command_run.specs.Outcomes.{first_unreturned, outcomes};
 
 use crate::Chain;
 use crate::report::push_report;

@@ -1,4 +1,7 @@
+pub mod Outcomes
+pub mod OnCalls
 pub mod Run
 pub mod RunFiles
 pub mod OutcomeLaws
+pub mod OnCallsLaws
 pub mod Laws

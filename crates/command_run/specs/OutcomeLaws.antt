@@ -1,9 +1,9 @@
 -- One more call is run, and what a run that halts nowhere says of its calls.
-use Rattle.std.proofs.Common.{◌≡◌, ℕ, suc, ◌+◌, ◌<◌, ◌≤◌, Option, None, Some, List, [], ◌∷◌, ◌++◌, length, drop, refl, sym, ap, ◌∙◌, append_assoc, append-nil, add-one, get_or}
+use Rattle.std.proofs.Common.{◌≡◌, ℕ, suc, ◌+◌, ◌<◌, ◌≤◌, Option, None, Some, List, [], ◌∷◌, ◌++◌, length, drop, refl, sym, ap, ap₂, ◌∙◌, append_assoc, append-nil, add-one, get_or}
 use Rattle.std.specs.Prelude.{slice_get, All}
 use Rattle.std.proofs.Math.Seq.{drop-cons}
 use Rattle.std.proofs.Math.ListN.{drop_of_length-le}
-use Rattle.std.proofs.lemmas.List.Elements.{All-nil, All-cons}
+use Rattle.std.proofs.lemmas.List.Elements.{All-cons, All-head, All-nil, All-tail}
 use Rattle.ir_tree.specs.Functions.{function_at}
 use Rattle.ir_tree.specs.declared.types.Module.{Module}
 use Rattle.ir_model.specs.declared.result.Call.{Call}
@@ -12,7 +12,8 @@ use Rattle.ir_model.specs.Run.{run_of, result_of}
 use Rattle.ir_model.specs.declared.result.End.{End}
 use Rattle.ir_model.specs.declared.result.End.TheVariants.{Returned, Trapped, StepsSpent}
 use Rattle.call_list.specs.Outcome.{outcome_of}
-use Rattle.command_run.specs.Run.{HasReturned, first_unreturned, or_else, outcomes, result_in, run_made, unreturned}
+use Rattle.command_run.specs.Outcomes.{HasReturned, first_unreturned, or_else, outcomes, result_in, unreturned}
+use Rattle.command_run.specs.Run.{run_made}
 use Rattle.pgo_shell.specs.Judgement.{Made}
 
 abbrev pub outcome_in : Module → ℕ → ℕ → Call → List ℕ
@@ -83,3 +84,13 @@ run_ends m steps calls i halted out files past put so_far none =
   where
     made_same : (a b : Option (List ℕ)) (x y : List ℕ) (f g : List (List ℕ)) → a ≡ b → x ≡ y → f ≡ g → ◌≡◌ {A = Made} (record { halted = a; output = x; written = f }) (record { halted = b; output = y; written = g })
     made_same a b x y f g p q r = cc
+
+ends_none : (m : Module) (steps k : ℕ) (call : Call) → HasReturned m steps call → unreturned k (result_in m steps call).end ≡ None
+ends_none m steps k call returned = rw returned.1 refl
+
+-- where every call returned, none is named as one that did not
+pub none_unreturned : (m : Module) (steps k : ℕ) (calls : List Call) → All (HasReturned m steps) calls → first_unreturned m steps k calls ≡ None
+none_unreturned m steps k [] all = refl
+none_unreturned m steps k (call ∷ calls) all =
+    ap₂ or_else (ends_none m steps k call (All-head (HasReturned m steps) call calls all))
+    (none_unreturned m steps (k + 1) calls (All-tail (HasReturned m steps) call calls all))

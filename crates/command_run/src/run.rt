@@ -3,7 +3,8 @@ ghost use Rattle.std.specs.Prelude.{◌≡◌, [], IfErr, IfOk};
 ghost use Rattle.std.specs.Option.{option_map};
 ghost use Rattle.ir_model.specs.Run.{IsValidCallList};
 ghost use Rattle.pgo_shell.specs.Product.{RefusedBy, bytes_of, made_of};
-ghost use Rattle.command_run.specs.Run.{or_else, run_judgement, run_made, unreturned};
+ghost use Rattle.command_run.specs.Outcomes.{or_else, unreturned};
+ghost use Rattle.command_run.specs.Run.{run_judgement, run_made};
 ghost use Rattle.command_run.specs.RunFiles.{files_of};
 
 use call_list::{outcome, trap_text};
@@ -89,6 +90,7 @@ fn run_all(
     let functions = Numbering::of(alloc, module.module().functions.as_slice())?;
     let mut output = Vec::new(alloc);
     let mut halted = None;
+    code.has_few_marks();
     for (number, call) in calls.iter().enumerate() {
         let ended = run_call(alloc, code, call, steps, &mut QuietProbe)?;
         let text = outcome(alloc, &functions, number as u32, call, &ended)?;

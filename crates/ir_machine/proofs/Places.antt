@@ -13,8 +13,7 @@ use Rattle.ir_tree.specs.Operands.{result_name, result_names}
 use Rattle.ir_tree.specs.Phis.{phi_count, leading_phis, behind_phis}
 use Rattle.ir_tree.specs.declared.types.Instr.{Instr}
 use Rattle.ir_tree.specs.declared.types.Block.{Block}
-use Rattle.ir_machine.specs.Names.{number_of, number_in, AreNumbered}
-use Rattle.ir_machine.specs.declared.names.Numbers.{Numbers}
+use Rattle.ir_code.specs.Names.{number_of}
 
 -- the first place of a name, and the number of names where it is not among them
 abbrev pub place_of : List (List ℕ) → List ℕ → ℕ
@@ -147,10 +146,6 @@ place_among names x h =
 -- numbers by place are those of the definition
 pub placed : (names : List (List ℕ)) → ◌≡◌ {A = List ℕ → ℕ} (number_of names) (place_of names)
 placed names = λ i x. position_is names x i
-
--- the numbers that are found are those of the names
-pub numbers_are : (numbers : Numbers) (names : List (List ℕ)) → AreNumbered numbers names → ◌≡◌ {A = List ℕ → ℕ} (number_in numbers) (number_of names)
-numbers_are numbers names h = λ i x. unwrap_or (h.found x i) (h.count i)
 
 block_at_if : (b : Block) (bs : List Block) (l : List ℕ) (p : Bool) → slice_get bs (place_of (labels bs) l) ≡ block_named bs l → slice_get (b ∷ bs) (cond p 0 (suc (place_of (labels bs) l))) ≡ cond p (Some b) (block_named bs l)
 block_at_if b bs l true rec = refl

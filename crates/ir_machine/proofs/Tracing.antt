@@ -1,5 +1,5 @@
--- Counts that are raised way by way have risen by the traversals.
-use Rattle.std.proofs.Common.{◌≡◌, ◌≢◌, ℕ, zero, suc, ◌+◌, ◌^◌, ◌<◌, ◌≤◌, ◌==◌, Bool, true, false, cond, List, [], ◌∷◌, length, get_or, Option, Some, None, refl, sym, ◌∙◌, ap, subst, arith, get_or-set_same, get_or-set_other}
+-- Counts that are raised by all that is seen of a run have risen by the traversals.
+use Rattle.std.proofs.Common.{◌≡◌, ◌≢◌, ℕ, zero, suc, ◌+◌, ◌^◌, ◌<◌, ◌≤◌, ◌==◌, Bool, true, false, cond, List, [], ◌∷◌, ◌++◌, length, get_or, Option, Some, None, refl, sym, ◌∙◌, ap, subst, arith, get_or-set_same, get_or-set_other}
 use Rattle.std.proofs.Math.ListN.{length-set}
 use Rattle.std.specs.Prelude.{slice_get, slice_set, position, option_and_then, ◌&&◌}
 use Rattle.std.specs.Option.{option_map}
@@ -7,20 +7,29 @@ use Rattle.std.specs.List.{count_by}
 use Rattle.std.proofs.lemmas.List.Sums.{sum_by-cons}
 use Rattle.std.proofs.lemmas.Bool.{eqb-true, eq-eqb}
 use Rattle.std.proofs.lemmas.Option.{slice_get_within, get_or_from_slice_get}
-use Rattle.ir_tree.specs.Blocks.{labels, block_place}
+use Rattle.ir_tree.specs.Blocks.{labels, block_named, block_place}
 use Rattle.ir_tree.specs.Functions.{function_at, numbered}
 use Rattle.ir_tree.specs.Names.{same}
 use Rattle.ir_tree.specs.declared.types.Block.{Block}
 use Rattle.ir_tree.specs.declared.types.Function.{Function}
 use Rattle.ir_tree.specs.declared.types.Module.{Module}
-use Rattle.ir_model.specs.State.{Shown, Printed, Entered, Walked}
-use Rattle.ir_model.specs.Log.{Walk, Into, Out, log, is_at, sought_place, is_walk_of}
-use Rattle.ir_machine.specs.Steps.{Way, ways}
-use Rattle.ir_machine.specs.Counts.{one_more, raised, raised_to, raised_way, counted}
-use Rattle.ir_machine.specs.Slots.{edges_of_all, first_edge_of, slot_of, HasEdge, HasEdgeIn, IsWayOut, place_in, block_slots}
-use Rattle.ir_machine.proofs.InStep.{view, Own}
-use Rattle.ir_machine.proofs.Places.{place_of, place_among}
-use Rattle.ir_machine.proofs.Numbers.{ways_before, block_slot, slot_inside, slot_apart, SameEdge, decided}
+use Rattle.ir_model.specs.declared.probe.Event.{Event}
+use Rattle.ir_model.specs.declared.probe.Event.TheVariants as event
+use Rattle.ir_model.specs.State.{Shown, Did, Targeted, Printed, Entered, Walked, What}
+use Rattle.ir_model.specs.Step.{sought}
+use Rattle.ir_model.specs.Log.{Walk, Into, Out, logged, log, is_at, sought_place, is_walk_of}
+use Rattle.ir_code.specs.Units.{told}
+use Rattle.ir_machine.specs.declared.slots.FunctionSlots.{FunctionSlots}
+use Rattle.ir_machine.specs.declared.state.Sight.{Sight}
+use Rattle.ir_machine.specs.declared.state.Sight.TheVariants as sight
+use Rattle.ir_machine.specs.Steps.{sights, seen_marks}
+use Rattle.ir_machine.specs.Counts.{one_more, raised, raised_to, raised_entry, raised_way, raised_out, raised_by, counted}
+use Rattle.ir_machine.specs.Slots.{edges_of_all, first_edge_of, slot_of, HasEdge, HasEdgeIn, IsWayOut, place_in, block_slots, function_slots, all_slots}
+use Rattle.ir_machine.proofs.InStep.{block_number, units, view, view_one}
+use Rattle.ir_machine.proofs.Places.{place_of, place_among, block_at}
+use Rattle.ir_machine.proofs.Numbers.{ways_before, block_slot, function_slot, slot_inside, slot_apart, SameEdge, decided}
+use Rattle.ir_machine.proofs.Results.{sights-append}
+use Rattle.ir_machine.proofs.WaysOut.{IsOwn, AreOwn}
 
 got : (xs : List ℕ) (i : ℕ) → i < length xs → slice_get xs i ≡ Some (get_or xs i 0)
 got [] i h = absurd (omega arith)
@@ -79,13 +88,22 @@ way_most : (counts : List ℕ) (position s : ℕ) (o : Option ℕ) → get_or (r
 way_most counts position s None = omega arith
 way_most counts position s (Some start) = raised_most counts (start + position) s
 
--- no count rises by more than the number of ways
-pub counted_most : (starts counts : List ℕ) (ws : List Way) (s : ℕ) → get_or (counted starts counts ws) s 0 ≤ get_or counts s 0 + length ws
-counted_most starts counts [] s = omega arith
-counted_most starts counts (w ∷ ws) s =
-    let rec = counted_most starts (raised_way counts w.position (slice_get starts w.block)) ws s in
-    let one = way_most counts w.position s (slice_get starts w.block) in
-    omega (arith, rec, one)
+out_most : (counts : List ℕ) (block position s : ℕ) (o : Option FunctionSlots) → get_or (raised_out counts block position o) s 0 ≤ get_or counts s 0 + 1
+out_most counts block position s None = omega arith
+out_most counts block position s (Some own) = way_most counts position s (slice_get own.blocks block)
+
+entry_most : (counts : List ℕ) (s : ℕ) (o : Option FunctionSlots) → get_or (raised_entry counts o) s 0 ≤ get_or counts s 0 + 1
+entry_most counts s None = omega arith
+entry_most counts s (Some own) = raised_most counts own.entry s
+
+-- marks are not counted
+marks_counted : (slots : List FunctionSlots) (counts : List ℕ) (es : List Event) (rest : List Sight) → counted slots counts (sights (seen_marks es) ++ rest) ≡ counted slots counts rest
+marks_counted slots counts [] rest = refl
+marks_counted slots counts (event.Walked k e ∷ es) rest = marks_counted slots counts es rest
+marks_counted slots counts (event.Target k s c ∷ es) rest = marks_counted slots counts es rest
+marks_counted slots counts (event.Added c s ∷ es) rest = marks_counted slots counts es rest
+marks_counted slots counts (event.Noted s c ∷ es) rest = marks_counted slots counts es rest
+marks_counted slots counts (event.Chose k s v ∷ es) rest = marks_counted slots counts es rest
 
 -- a block with a way out is one of these
 way_within : (bs : List Block) (b p : ℕ) → IsWayOut (slice_get bs b) p → b < length (labels bs)
@@ -180,28 +198,114 @@ module _ (m : Module) (k : ℕ) (f : Function) (at : function_at m k ≡ Some f)
       ∙ start_at l p (slice_get f.blocks (place l)) h counts
       ∙ ap (λ o. raised counts (first_edge_of m k + place_in o (Some (place l)) p)) (sym at)
 
+  slots_here : slice_get (all_slots 0 (numbered m.functions)) k ≡ Some (function_slots (first_edge_of m k) f)
+  slots_here =
+      let e : 0 + first_edge_of m k ≡ first_edge_of m k = omega arith in
+      function_slot 0 (numbered m.functions) k
+      ∙ ap (option_map (function_slots (0 + first_edge_of m k))) at
+      ∙ ap (λ n. Some (function_slots n f)) e
+
+  -- what is seen is counted at its slot
+  pub left_at : (l : List ℕ) (p : ℕ) → IsWayOut (slice_get f.blocks (place l)) p → (counts : List ℕ) → raised_by (all_slots 0 (numbered m.functions)) counts (sight.Left k (place l) p) ≡ raised counts (slot_of m k (Some (place l)) p)
+  left_at l p h counts = ap (raised_out counts (place l) p) slots_here ∙ way_slot l p h counts
+
+  pub entered_at : (counts : List ℕ) → raised_by (all_slots 0 (numbered m.functions)) counts (sight.Entered k) ≡ raised counts (slot_of m k None 0)
+  entered_at counts =
+      let e : first_edge_of m k ≡ first_edge_of m k + 0 = omega arith in
+      ap (raised_entry counts) slots_here ∙ ap (raised counts) (e ∙ ap (λ o. first_edge_of m k + place_in o None 0) (sym at))
+
+  -- a block that is found has its ways out by its place
+  pub way_found : (l : List ℕ) (p : ℕ) → IsWayOut (sought m k l) p → IsWayOut (slice_get f.blocks (place l)) p
+  way_found l p h =
+      let e : sought m k l ≡ slice_get f.blocks (place l) =
+      ap (option_and_then (λ (g : Function). block_named g.blocks l)) at ∙ sym (block_at f.blocks l) in
+      subst (λ o. IsWayOut o p) e h
+
+module _ (m : Module) (j : ℕ) (block : Option ℕ) (position : ℕ) (edge : HasEdge m j block position) where
+  abbrev all : List FunctionSlots
+  all = all_slots 0 (numbered m.functions)
+
+  abbrev here : ℕ
+  here = slot_of m j block position
+
+  abbrev test : Walk → Bool
+  test = is_walk_of m j block position
+
   -- counts may rise by so much
   abbrev pub Room : List ℕ → ℕ → Type 0
   Room counts n = (s : ℕ) → get_or counts s 0 + n < 2 ^ 64
 
-  pub counted_is : (xs : List Shown) (counts : List ℕ) → Own m k f xs → length counts ≡ edges_of_all m → Room counts (length (ways (view m k f xs))) → get_or (counted starts counts (ways (view m k f xs))) slot 0 ≡ get_or counts slot 0 + count_by (is_walk_of m j block position) (log xs)
-  counted_is [] counts own all room = omega arith
-  counted_is (Printed b ∷ xs) counts own all room = counted_is xs counts own all room
-  counted_is (Entered i ∷ xs) counts own all room = absurd own
-  counted_is (Walked i l p ∷ xs) counts own all room =
-      let here : slot_of m k (Some (place l)) p < edges_of_all m =
-      slot_inside (numbered m.functions) k (Some (place l)) p (own_edge l p own.0.1) in
-      let w : ℕ = slot_of m k (Some (place l)) p in
-      let within : w < length counts = omega (arith, here, all) in
-      let left : ℕ = length (ways (view m k f xs)) in
+  abbrev after : List ℕ → List Shown → List ℕ
+  after counts xs = counted all counts (sights (view m xs))
+
+  abbrev Counts : List ℕ → List Shown → Type 0
+  Counts counts xs = get_or (after counts xs) here 0 ≡ get_or counts here 0 + count_by test (log xs)
+
+  -- one walk more, at its slot
+  one_more_walk : (counts : List ℕ) (s : Sight) (w : ℕ) (walk : Walk) (xs : List Shown) → w < edges_of_all m → raised_by all counts s ≡ raised counts w → test walk ≡ (w == here) → length counts ≡ edges_of_all m → Room counts (suc (length (log xs))) → (length (raised counts w) ≡ edges_of_all m → Room (raised counts w) (length (log xs)) → Counts (raised counts w) xs) → get_or (counted all (raised_by all counts s) (sights (view m xs))) here 0 ≡ get_or counts here 0 + count_by test (walk ∷ log xs)
+  one_more_walk counts s w walk xs inside is tested count room rec =
+      let within : w < length counts = omega (arith, inside, count) in
       let enough : get_or counts w 0 + 1 < 2 ^ 64 = omega (arith, room w) in
-      let next_all : length (raised counts w) ≡ edges_of_all m = raised_length counts w ∙ all in
-      let next_room : (s : ℕ) → get_or (raised counts w) s 0 + left < 2 ^ 64 =
+      let next_count : length (raised counts w) ≡ edges_of_all m = raised_length counts w ∙ count in
+      let next_room : (s : ℕ) → get_or (raised counts w) s 0 + length (log xs) < 2 ^ 64 =
       λ s. omega (arith, room s, raised_most counts w s) in
-      let rec = counted_is xs (raised counts w) own.1 next_all next_room in
-      let rise = raised_at counts w slot within enough in
-      let seen : ◌≡◌ {A = ℕ} (cond (is_walk_of m j block position (Out i l p)) 1 0) (cond (w == slot) 1 0) =
-      ap (λ n. cond (is_walk_of m j block position (Out n l p)) 1 0) own.0.0 ∙ ap (λ b. cond b 1 0) (is_walk l p own.0.1) in
-      let total = sum_by-cons (λ (x : Walk). cond (is_walk_of m j block position x) 1 0) (Out i l p) (log xs) in
-      ap (λ cs. get_or (counted starts cs (ways (view m k f xs))) slot 0) (way_slot l p own.0.1 counts)
-      ∙ rec ∙ omega (arith, rise, seen, total)
+      let later = rec next_count next_room in
+      let rise = raised_at counts w here within enough in
+      let seen : ◌≡◌ {A = ℕ} (cond (test walk) 1 0) (cond (w == here) 1 0) = ap (λ b. cond b 1 0) tested in
+      let total = sum_by-cons (λ (x : Walk). cond (test x) 1 0) walk (log xs) in
+      ap (λ cs. get_or (counted all cs (sights (view m xs))) here 0) is ∙ later ∙ omega (arith, rise, seen, total)
+
+  walked_in : (k : ℕ) (l : List ℕ) (p : ℕ) (xs : List Shown) (counts : List ℕ) (o : Option Function) → function_at m k ≡ o → IsWayOut (sought m k l) p → length counts ≡ edges_of_all m → Room counts (suc (length (log xs))) → ((cs : List ℕ) → length cs ≡ edges_of_all m → Room cs (length (log xs)) → Counts cs xs) → Counts counts (Walked k l p ∷ xs)
+  walked_in k l p xs counts None at h count room rec =
+      let none : sought m k l ≡ None = ap (option_and_then (λ (g : Function). block_named g.blocks l)) at in
+      absurd (subst (λ o. IsWayOut o p) none h)
+  walked_in k l p xs counts (Some f) at h count room rec =
+      let way = way_found m k f at j block position edge l p h in
+      let w : ℕ = slot_of m k (Some (place_of (labels f.blocks) l)) p in
+      let inside : w < edges_of_all m =
+      slot_inside (numbered m.functions) k (Some (place_of (labels f.blocks) l)) p (own_edge m k f at j block position edge l p way) in
+      let numbers : get_or (after counts (Walked k l p ∷ xs)) here 0 ≡ get_or (counted all (raised_by all counts (sight.Left k (place_of (labels f.blocks) l) p)) (sights (view m xs))) here 0 =
+      ap (λ o. get_or (counted all (raised_by all counts (sight.Left k (block_number m o l) p)) (sights (view m xs))) here 0) at in
+      numbers
+      ∙ one_more_walk counts (sight.Left k (place_of (labels f.blocks) l) p) w (Out k l p) xs inside (left_at m k f at j block position edge l p way counts) (is_walk m k f at j block position edge l p way) count room (rec (raised counts w))
+
+  entered_in : (k : ℕ) (xs : List Shown) (counts : List ℕ) (o : Option Function) → function_at m k ≡ o → HasEdgeIn o None 0 → length counts ≡ edges_of_all m → Room counts (suc (length (log xs))) → ((cs : List ℕ) → length cs ≡ edges_of_all m → Room cs (length (log xs)) → Counts cs xs) → Counts counts (Entered k ∷ xs)
+  entered_in k xs counts None at h count room rec = absurd h
+  entered_in k xs counts (Some f) at h count room rec =
+      let own : HasEdge m k None 0 = subst (λ o. HasEdgeIn o None 0) (sym at) h in
+      let w : ℕ = slot_of m k None 0 in
+      one_more_walk counts (sight.Entered k) w (Into k) xs (slot_inside (numbered m.functions) k None 0 own) (entered_at m k f at j block position edge counts) (is_entry m k f at j block position edge h) count room (rec (raised counts w))
+
+  -- the count of an edge rises by its walks
+  pub counted_is : (xs : List Shown) (counts : List ℕ) → AreOwn m xs → length counts ≡ edges_of_all m → Room counts (length (log xs)) → Counts counts xs
+  counted_is [] counts own count room = omega arith
+  counted_is (Did k l p what ∷ xs) counts own count room =
+      ap (λ ss. get_or (counted all counts ss) here 0) (sights-append (seen_marks (told (units m) what)) (view m xs))
+      ∙ ap (λ cs. get_or cs here 0) (marks_counted all counts (told (units m) what) (sights (view m xs)))
+      ∙ counted_is xs counts own.1 count room
+  counted_is (Targeted k l p callee ∷ xs) counts own count room = counted_is xs counts own.1 count room
+  counted_is (Printed b ∷ xs) counts own count room = counted_is xs counts own.1 count room
+  counted_is (Entered k ∷ xs) counts own count room =
+      entered_in k xs counts (function_at m k) refl own.0 count room (λ cs e r. counted_is xs cs own.1 e r)
+  counted_is (Walked k l p ∷ xs) counts own count room =
+      walked_in k l p xs counts (function_at m k) refl own.0 count room (λ cs e r. counted_is xs cs own.1 e r)
+
+-- no count rises by more than the edges that are walked
+pub counted_most : (m : Module) (slots : List FunctionSlots) (xs : List Shown) (counts : List ℕ) (s : ℕ) → get_or (counted slots counts (sights (view m xs))) s 0 ≤ get_or counts s 0 + length (log xs)
+counted_most m slots [] counts s = omega arith
+counted_most m slots (Did k l p what ∷ xs) counts s =
+    let e : get_or (counted slots counts (sights (view m (Did k l p what ∷ xs)))) s 0 ≡ get_or (counted slots counts (sights (view m xs))) s 0 =
+    ap (λ ss. get_or (counted slots counts ss) s 0) (sights-append (seen_marks (told (units m) what)) (view m xs))
+    ∙ ap (λ cs. get_or cs s 0) (marks_counted slots counts (told (units m) what) (sights (view m xs))) in
+    let rec = counted_most m slots xs counts s in
+    omega (arith, e, rec)
+counted_most m slots (Targeted k l p callee ∷ xs) counts s = counted_most m slots xs counts s
+counted_most m slots (Printed b ∷ xs) counts s = counted_most m slots xs counts s
+counted_most m slots (Entered k ∷ xs) counts s =
+    let rec = counted_most m slots xs (raised_entry counts (slice_get slots k)) s in
+    let one = entry_most counts s (slice_get slots k) in
+    omega (arith, rec, one)
+counted_most m slots (Walked k l p ∷ xs) counts s =
+    let rec = counted_most m slots xs (raised_out counts (block_number m (function_at m k) l) p (slice_get slots k)) s in
+    let one = out_most counts (block_number m (function_at m k) l) p s (slice_get slots k) in
+    omega (arith, rec, one)

@@ -1,5 +1,3 @@
-pub mod Names
-pub mod Resolved
 pub mod Steps
-pub mod Counts
 pub mod Slots
+pub mod Counts

@@ -1,22 +1,20 @@
-//! The evaluator: code resolved from a module, and the run of a call on it.
+//! The evaluator: the run of a call on the code of a module.
 #![tactic(auto)]
 
-mod code;
+mod calls;
+mod deeds;
+mod exits;
 mod laws;
-mod machine;
-mod names;
-mod operands;
-#[cfg(test)]
-mod phi_tests;
-mod phis;
+mod memories;
 mod program;
-mod resolving;
+mod registers;
 mod run;
 mod slots;
-#[cfg(test)]
-mod tests;
+mod state;
+mod step;
 mod trace;
 mod turns;
+mod walks;
 
 pub use laws::edges_are_counted;
 pub use program::{Code, ResolveError, resolve};

@@ -1,15 +1,19 @@
 // The code of a module.
-ghost use Rattle.std.specs.Prelude.{◌≡◌, ◌<◌, [], IfOk, IsErrOf};
+ghost use Rattle.std.specs.Prelude.{◌≡◌, ◌^◌, ◌<◌, ◌≤◌, IfOk, IsErrOf};
 ghost use Rattle.ir_tree.specs.Functions.{numbered};
 ghost use Rattle.ir_check.specs.ModuleKind.{kind_of};
 ghost use Rattle.ir_check.specs.declared.place.Kind.TheVariants as kinds;
-ghost use Rattle.ir_machine.specs.Resolved.{module_code};
+ghost use Rattle.ir_code.specs.Images.{module_images};
+ghost use Rattle.ir_code.specs.Resolved.{module_code};
+ghost use Rattle.ir_code.specs.Units.{counters_of_all, sites_of_all, tallies_of};
 ghost use Rattle.ir_machine.specs.Slots.{edges_of_all, first_edge_of, slot_of, HasEdge, all_slots};
 
-use crate::code::FunctionCode;
-use crate::resolving::resolve_functions;
 use crate::slots::{FunctionSlots, Numbering, entry_in, number_functions, slot_in_all};
 use ir_check::{Checked, Kind};
+use ir_code::{
+    FunctionCode, GlobalImage, Symbols, counter_total, global_images, module_symbols,
+    resolve_functions, site_total,
+};
 use ir_model::Tally;
 use ir_tree::{Module, Seq};
 use pgo_base::NoMemory;
@@ -23,15 +27,20 @@ use thiserror::Error;
 pub struct Code<'a> {
     module: &'a Module,
     functions: Seq<FunctionCode>,
+    images: Seq<GlobalImage>,
     tallies: Seq<Tally>,
+    counters: u32,
+    sites: u32,
     numbering: Numbering,
 }
 
 impl<'a> Model for Code<'a> {
-    ghost use Rattle.std.specs.Prelude.{◌≡◌, []};
+    ghost use Rattle.std.specs.Prelude.{◌≡◌};
     ghost use Rattle.ir_tree.specs.Functions.{numbered};
     ghost use Rattle.ir_tree.specs.declared.types.Module.{Module};
-    ghost use Rattle.ir_machine.specs.Resolved.{module_code};
+    ghost use Rattle.ir_code.specs.Images.{module_images};
+    ghost use Rattle.ir_code.specs.Resolved.{module_code};
+    ghost use Rattle.ir_code.specs.Units.{counters_of_all, sites_of_all, tallies_of};
     ghost use Rattle.ir_machine.specs.Slots.{all_slots, edges_of_all};
 
     ghost Value = { Module };
@@ -42,15 +51,38 @@ impl<'a> Model for Code<'a> {
 
     ghost view = { λ c. c.module.now };
 
-    ghost invariant = { λ c. (c.functions ≡ module_code c.module.now) × (c.tallies ≡ []) × (c.numbering.functions ≡ all_slots 0 (numbered c.module.now.functions)) × (c.numbering.total ≡ edges_of_all c.module.now) };
+    ghost invariant = { λ c. (c.functions ≡ module_code c.module.now) × (c.images ≡ module_images c.module.now) × (c.tallies ≡ tallies_of c.module.now) × (c.counters ≡ counters_of_all (tallies_of c.module.now)) × (c.sites ≡ sites_of_all (tallies_of c.module.now)) × (c.numbering.functions ≡ all_slots 0 (numbered c.module.now.functions)) × (c.numbering.total ≡ edges_of_all c.module.now) };
 }
 
 impl<'a> Code<'a> {
-    /// What the module counts, one tally for each name. A module that isn't lowered counts nothing.
+    /// What the module counts, one tally for each unit. A module that isn't lowered counts nothing.
     pub fn tallies(&self) -> &[Tally]
-        ensures { result.now ≡ [] }
+        ensures { result.now ≡ tallies_of self.now }
     {
         self.tallies.as_slice()
+    }
+
+    /// How many counters all units have.
+    pub(crate) fn counters(&self) -> u32
+        ensures { result ≡ counters_of_all (tallies_of self.now) }
+    {
+        self.counters
+    }
+
+    /// How many sites all units have.
+    pub(crate) fn sites(&self) -> u32
+        ensures { result ≡ sites_of_all (tallies_of self.now) }
+    {
+        self.sites
+    }
+
+    /// There are fewer than 2^32 counters and sites, so that a probe that keeps nothing has room for them. Takes no memory.
+    pub fn has_few_marks(&self)
+        ensures counters { counters_of_all (tallies_of self.now) ≤ 2 ^ 32 }
+        ensures sites { sites_of_all (tallies_of self.now) ≤ 2 ^ 32 }
+    {
+        let _counters = self.counters();
+        let _sites = self.sites();
     }
 
     /// How many edges the functions have in all: each defined one its entry and those out of its
@@ -91,6 +123,13 @@ impl<'a> Code<'a> {
     {
         self.functions.as_slice()
     }
+
+    /// What the global variables hold at first.
+    pub(crate) fn images(&self) -> &[GlobalImage]
+        ensures { result.now ≡ module_images self.now }
+    {
+        self.images.as_slice()
+    }
 }
 
 /// Why an accepted module has no code.
@@ -123,12 +162,18 @@ pub fn resolve<'a>(alloc: Global, module: &'a Checked) -> Result<Code<'a>, Resol
 pub(crate) fn resolve_module<'a>(alloc: Global, module: &'a Module) -> Result<Code<'a>, NoMemory>
     ensures { IfOk result (λ code. code ≡ module.now) }
 {
-    let functions = resolve_functions(alloc, module.functions.as_slice())?;
+    let symbols = module_symbols(alloc, module)?;
+    let functions = resolve_functions(alloc, &symbols, module.functions.as_slice())?;
+    let images = global_images(alloc, &symbols, module.globals.as_slice())?;
+    let Symbols { tallies, .. } = symbols;
     let numbering = number_functions(alloc, module.functions.as_slice())?;
     Ok(Code {
         module,
         functions: Seq::of(functions),
-        tallies: Seq::of(Vec::new(alloc)),
+        images: Seq::of(images),
+        counters: counter_total(tallies.as_slice())?,
+        sites: site_total(tallies.as_slice())?,
+        tallies,
         numbering,
     })
 }

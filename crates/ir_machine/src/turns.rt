@@ -1,12 +1,15 @@
-// Steps in a row, and the walks that are counted on the way.
-ghost use Rattle.std.specs.Prelude.{◌≡◌, slice_get, IfOk, OnOk};
+// Steps in a row, and who is told what is seen of them.
+ghost use Rattle.std.specs.Prelude.{◌≡◌, ◌≤◌, List, [], ◌++◌, IfOk, OnErr, OnOk};
+ghost use Rattle.ir_tree.specs.Operands.{listed};
+ghost use Rattle.ir_model.specs.declared.probe.Event.{Event};
 ghost use Rattle.spec_machines.specs.Machine.{run, shown_of};
-ghost use Rattle.ir_machine.specs.Steps.{stage_of, code_step, result_from, turn_end, turn_ways, ways};
-ghost use Rattle.ir_machine.specs.Counts.{raised, raised_way, counted};
+ghost use Rattle.ir_machine.specs.Steps.{code_step, events_of, result_from, sights, state_of, turn_end, turn_sights};
 
-use crate::code::BlockCode;
-use crate::machine::{Machine, Turn, step};
-use ir_model::End;
+use crate::state::{Machine, Sight, Turn};
+use crate::step::step;
+use crate::walks::{Watcher, tell};
+use ir_code::FunctionCode;
+use ir_model::{End, Probe};
 use pgo_base::NoMemory;
 
 /// The end that a step comes to.
@@ -14,57 +17,67 @@ fn end_of(turn: Turn) -> Option<End>
     ensures { result ≡ turn_end turn }
 {
     match turn {
-        Turn::Goes | Turn::Walks { .. } => None,
+        Turn::Goes | Turn::Sees(_) => None,
         Turn::Returns { value, .. } => Some(End::Returned(value)),
         Turn::Traps(kind) => Some(End::Trapped(kind)),
     }
 }
 
-/// Raises the count at a slot, which stays as it is at the highest number.
-pub fn count(counts: &mut [u64], slot: usize)
-    ensures { counts.new ≡ raised counts.old slot }
-{
-    if slot < counts.len() {
-        counts[slot] = counts[slot].saturating_add(1);
-    }
-}
-
-/// Counts a way out of a block, where `starts` has the first slot of each block.
-fn count_way(starts: &[u32], counts: &mut [u64], block: usize, position: usize)
-    ensures { counts.new ≡ raised_way counts.old position (slice_get starts.now block) }
-{
-    if let Some(start) = starts.get(block) {
-        if let Some(slot) = position.checked_add(*start as usize) {
-            count(counts, slot);
-        }
-    }
-}
-
-/// Counts what a step walked.
-fn count_turn(starts: &[u32], counts: &mut [u64], turn: Turn)
-    ensures { counts.new ≡ counted starts.now counts.old (turn_ways turn) }
+/// What is seen of a step.
+fn seen(turn: Turn) -> Option<Sight>
+    ensures { listed result ≡ turn_sights turn }
 {
     match turn {
-        Turn::Goes | Turn::Traps(_) => {}
-        Turn::Walks { block, position } => count_way(starts, counts, block, position),
-        Turn::Returns { block, .. } => count_way(starts, counts, block, 0),
+        Turn::Goes | Turn::Traps(_) => None,
+        Turn::Sees(sight) | Turn::Returns { sight, .. } => Some(sight),
     }
 }
 
-/// Takes at most `steps` steps, and counts what they walk.
-pub fn run_on(
-    blocks: &[BlockCode],
-    starts: &[u32],
+/// Tells the watcher what is seen of a step, and the probe the mark in it.
+fn hear<P: Probe, W: Watcher>(
+    turn: Turn,
+    counters: u32,
+    sites: u32,
+    probe: &mut P,
+    watcher: &mut W,
+) -> Result<(), NoMemory>
+    requires counters { counters ≤ P.counters probe.old }
+    requires sites { sites ≤ P.sites probe.old }
+    ensures marks { OnOk result (P.after probe.old (events_of (turn_sights turn)) probe.new) }
+    ensures nothing { OnErr result (P.after probe.old [] probe.new) }
+    ensures walks { OnOk result (W.after watcher.old (turn_sights turn) watcher.new) }
+    ensures same_counters { P.counters probe.new ≡ P.counters probe.old }
+    ensures same_sites { P.sites probe.new ≡ P.sites probe.old }
+{
+    match seen(turn) {
+        Some(sight) => {
+            watcher.see(sight);
+            tell(probe, counters, sites, sight)
+        }
+        None => Ok(()),
+    }
+}
+
+/// Takes at most `steps` steps. The watcher is told all that is seen of them, and the probe the marks.
+pub fn run_on<P: Probe, W: Watcher>(
+    functions: &[FunctionCode],
     machine: &mut Machine,
     steps: u64,
-    counts: &mut [u64],
+    counters: u32,
+    sites: u32,
+    probe: &mut P,
+    watcher: &mut W,
 ) -> Result<End, NoMemory>
-    ensures result { IfOk result (λ end. record { printed = machine.new.printed.items; end = end } ≡ result_from machine.old.printed.items (run (code_step blocks.now) steps (stage_of machine.old))) }
-    ensures counts { OnOk result (counts.new ≡ counted starts.now counts.old (ways (shown_of (run (code_step blocks.now) steps (stage_of machine.old))))) }
+    requires counters { counters ≤ P.counters probe.old }
+    requires sites { sites ≤ P.sites probe.old }
+    ensures result { IfOk result (λ end. record { printed = machine.new.printed.items; end = end } ≡ result_from machine.old.printed.items (run (code_step functions.now) steps (state_of machine.old))) }
+    ensures marks { OnOk result (P.after probe.old (events_of (sights (shown_of (run (code_step functions.now) steps (state_of machine.old))))) probe.new) }
+    ensures first_marks { OnErr result ((told rest : List Event) × (events_of (sights (shown_of (run (code_step functions.now) steps (state_of machine.old)))) ≡ told ++ rest) × P.after probe.old told probe.new) }
+    ensures walks { OnOk result (W.after watcher.old (sights (shown_of (run (code_step functions.now) steps (state_of machine.old)))) watcher.new) }
 {
     for _turn in 0..steps {
-        let turn = step(blocks, machine)?;
-        count_turn(starts, counts, turn);
+        let turn = step(functions, machine)?;
+        hear(turn, counters, sites, probe, watcher)?;
         match end_of(turn) {
             Some(end) => return Ok(end),
             None => {}

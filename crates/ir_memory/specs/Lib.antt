@@ -6,3 +6,4 @@ pub mod Memory
 pub mod Sound
 pub mod Laws
 pub mod Examples
+pub mod Image

@@ -33,6 +33,15 @@ impl Cells {
         })
     }
 
+    /// A copy of these cells.
+    pub fn copied(alloc: Global, cells: &[Cell]) -> Result<Cells, AllocError>
+        ensures { IfOk result (λ copy. copy ≡ cells.now) }
+    {
+        Ok(Cells {
+            cells: Vec::from_slice(alloc, cells)?,
+        })
+    }
+
     pub fn len(&self) -> usize
         ensures { result ≡ length self.now }
     {

@@ -6,10 +6,12 @@ mod cell;
 mod cells;
 mod contents;
 mod error;
+mod image;
 mod memory;
 mod value;
 
 pub use error::MemError;
+pub use image::Image;
 pub use memory::{CELL_LIMIT, Memory};
 pub use value::{Base, Value, address};
 

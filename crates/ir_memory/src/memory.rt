@@ -6,6 +6,7 @@ use crate::cell::Cell;
 use crate::cells::Cells;
 use crate::contents::{decode, encode};
 use crate::error::MemError;
+use crate::image::Image;
 use crate::value::{Base, Value};
 use std::alloc::Global;
 use std::marker::Model;
@@ -35,6 +36,7 @@ impl Model for Memory {
 
 impl Memory {
     ghost use Rattle.ir_memory.specs.Contents.{FitsIn, is_pointer};
+    ghost use Rattle.ir_memory.specs.Image.{made_of};
     ghost use Rattle.ir_memory.specs.Laws.{ChangesOnlyRange, ReadsPointer};
     ghost use Rattle.ir_memory.specs.Memory.{empty_memory, found, live_cells, made, dropped, loaded, placed, stored, written, cells_at, IsMakeRefusal, IsAt};
 
@@ -48,6 +50,38 @@ impl Memory {
             live: Vec::new(alloc),
             live_cells: 0,
         }
+    }
+
+    /// The number of the next object.
+    pub fn next(&self) -> u64
+        ensures { result ≡ self.now.next }
+    {
+        self.next
+    }
+
+    /// A new object of these cells, as a global variable takes one. It is refused with `Cells` where the live cells
+    /// would pass `CELL_LIMIT`, and with `NoMemory` where there is no memory for them.
+    pub fn make_of(&mut self, image: &Image, constant: bool) -> Result<(), MemError>
+        requires { self.old.next < 2 ^ 64 - 1 }
+        ensures ok { OnOk result (self.new ≡ made_of self.old image.now constant) }
+        ensures next_within { self.new.next ≤ self.old.next + 1 }
+        ensures err { IfErr result IsMakeRefusal }
+        ensures unchanged { OnErr result (self.new ≡ self.old) }
+    {
+        let cells = image.as_slice();
+        let counted = (cells.len() as u64).max(1);
+        if CELL_LIMIT - self.live_cells < counted {
+            return Err(MemError::Cells);
+        }
+        let cells = Cells::copied(self.alloc, cells)?;
+        self.live.push(Allocation {
+            number: self.next,
+            constant,
+            cells,
+        })?;
+        self.next += 1;
+        self.live_cells += counted;
+        Ok(())
     }
 
     /// A new object of `size` zero bytes, by its number, as an `alloca` or a global takes one. It is refused with

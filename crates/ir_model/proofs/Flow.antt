@@ -1,36 +1,36 @@
 -- The walks of a call that returns are a flow: each frame was entered once, stands in one block at a time, and is left
 -- once.
-use Rattle.std.proofs.Common.{◌≡◌, ℕ, zero, suc, ◌+◌, ◌==◌, Bool, true, false, cond, List, [], ◌∷◌, ◌++◌, length, map, drop, Option, Some, None, refl, sym, ◌∙◌, ap, subst, arith}
-use Rattle.std.specs.Prelude.{◌&&◌, nat_le, slice_get, option_and_then}
+use Rattle.std.proofs.Common.{◌≡◌, ℕ, zero, suc, ◌+◌, ◌==◌, Bool, true, false, cond, List, [], ◌∷◌, ◌++◌, length, map, drop, Option, Some, None, refl, sym, ◌∙◌, ap, subst, arith, append_assoc}
+use Rattle.std.specs.Prelude.{◌&&◌, nat_le, nat_lt, slice_get, option_and_then}
 use Rattle.std.specs.List.{count_by}
+use Rattle.std.specs.Option.{option_map}
 use Rattle.std.proofs.lemmas.List.Sums.{sum_by-cons, sum_by-append}
-use Rattle.ir_tree.specs.Functions.{function_at}
+use Rattle.ir_tree.specs.Functions.{function_at, print_name}
 use Rattle.ir_tree.specs.Names.{same}
 use Rattle.ir_tree.specs.Phis.{behind_phis}
 use Rattle.ir_tree.specs.Successors.{successors}
+use Rattle.ir_tree.specs.declared.types.Ty.{Ty}
+use Rattle.ir_tree.specs.declared.types.Ret.{Ret as ReturnType}
+use Rattle.ir_tree.specs.declared.types.Ty.TheVariants.{I1, I64}
 use Rattle.ir_tree.specs.declared.types.Instr.{Instr}
 use Rattle.ir_tree.specs.declared.types.Term.{Term}
 use Rattle.ir_tree.specs.declared.types.Term.TheVariants.{Br, CondBr, Switch, Ret, Unreachable}
 use Rattle.ir_tree.specs.declared.types.Block.{Block}
 use Rattle.ir_tree.specs.declared.types.Function.{Function}
 use Rattle.ir_tree.specs.declared.types.Module.{Module}
+use Rattle.ir_memory.specs.declared.value.Value.{Value}
+use Rattle.ir_memory.specs.declared.value.Value.TheVariants.{Int}
 use Rattle.ir_model.specs.declared.result.TrapKind.TheVariants as trap
 use Rattle.ir_model.specs.declared.result.Call.{Call}
 use Rattle.spec_machines.specs.Machine.{Goes, Stops, Ran, Open, Ended, shown_first, go_on, run}
-use Rattle.ir_model.specs.State.{Frame, State, Shown, Printed, Entered, Walked, Stop, Returns, Traps, arguments}
-use Rattle.ir_model.specs.Step.{Step, fails, goes_to, past, entering, resumed, phis_in, Deed, Gives, Calls, Fails, deed, choice, line_of, output_most, is_print, prints_first, acted, walked, returned, left, done, done_in, stepped, sought, step, value_of, returned_value}
-use Rattle.ir_model.specs.Run.{run_of, entered, begun}
-use Rattle.ir_model.specs.Log.{Walk, Into, Out, log, log_of, first_label, successor, target, same_block, comes_from, leads_to, AreBalanced, HasReturned}
-
-log-append : (xs ys : List Shown) → log (xs ++ ys) ≡ log xs ++ log ys
-log-append [] ys = refl
-log-append (Printed b ∷ xs) ys = log-append xs ys
-log-append (Entered k ∷ xs) ys = ap (λ l. Into k ∷ l) (log-append xs ys)
-log-append (Walked k l p ∷ xs) ys = ap (λ ws. Out k l p ∷ ws) (log-append xs ys)
-
-log_text : (text : List ℕ) → log (map Printed text) ≡ []
-log_text [] = refl
-log_text (b ∷ bs) = log_text bs
+use Rattle.ir_model.specs.Deed.{Deed, Gives, Calls, Fails, deed, choice, case_position}
+use Rattle.ir_model.specs.Initial.{initial_memory}
+use Rattle.ir_model.specs.State.{Frame, Shared, State, What, Shown, Did, Targeted, Printed, Entered, Walked, Stop, Returns, Traps, arguments}
+use Rattle.ir_model.specs.Step.{Step, fails, goes_to, past, waiting, entering, resumed, ended, phis_in, line_of, output_most, depth_most, with_result, targeted, prints, prints_first, marks_lifetime, declared, entered, called, call_at, fits, acted, walked, returned, left, done, done_in, stepped, sought, step, value_of}
+use Rattle.ir_model.specs.Run.{run_of, at_first, first_entered, begun}
+use Rattle.ir_model.specs.Log.{Walk, Into, Out, log, logged, log_of, first_label, successor, target, same_block, comes_from, leads_to, AreBalanced, HasReturned}
+use Rattle.ir_model.specs.LogLaws.{log-append, log_behind, log_deeds, log_first, log_targeted, log_text, returned_later}
+use Rattle.ir_model.specs.Values.{at_type, function_at_address, functions_of, number_at}
 
 and_false : (a : Bool) → a && false ≡ false
 and_false true = refl
@@ -143,80 +143,111 @@ module _ (m : Module) (k : ℕ) where
         same_spot None = ap (λ g. one_if (g == k)) (sym f)
         same_spot (Some n) = λ i. one_if (sym f i == k && same n (sym l i))
 
-    module _ (fr : Frame) (rest : List Frame) (out : ℕ) where
-      prints_if : (text : List ℕ) (c : Bool) → Fair (fr ∷ rest) (cond c (goes_to (past fr ∷ rest) (out + length text) (map Printed text)) (fails trap.Output))
-      prints_if text true =
-          subst (λ ws. Balanced b ws (fr ∷ rest) (past fr ∷ rest)) (sym (log_text text)) (stays b (fr ∷ rest) (past fr ∷ rest) (same_place fr (past fr) rest refl refl))
-      prints_if text false = tt
+    -- a step that walks nowhere, after which the frames stand as before
+    quiet : (shown : List Shown) (before after : List Frame) → log shown ≡ [] → standing b before ≡ standing b after → Balanced b (log shown) before after
+    quiet shown before after none e = subst (λ ws. Balanced b ws before after) (sym none) (stays b before after e)
 
-      prints_fair : (values : List ℕ) → Fair (fr ∷ rest) (prints_first fr rest out values)
-      prints_fair [] = tt
-      prints_fair (v ∷ vs) = prints_if (line_of v) (nat_le (out + length (line_of v)) output_most)
+    module _ (fr : Frame) (rest : List Frame) (shared : Shared) where
+      waits : (shown : List Shown) → log shown ≡ [] → Balanced b (log shown) (fr ∷ rest) (waiting fr ∷ rest)
+      waits shown none = quiet shown (fr ∷ rest) (waiting fr ∷ rest) none (same_place fr (waiting fr) rest refl refl)
 
-      calls_fair : (values : List ℕ) (c : Bool) → Fair (fr ∷ rest) (cond c (prints_first fr rest out values) (fails trap.Unreachable))
-      calls_fair values true = prints_fair values
-      calls_fair values false = tt
+      prints_if : (shown : List Shown) → log shown ≡ [] → (text : List ℕ) (c : Bool) → Fair (fr ∷ rest) (cond c (goes_to (waiting fr ∷ rest) (record shared { output = shared.output + length text }) (shown ++ map Printed text)) (fails trap.Output))
+      prints_if shown none text true = waits (shown ++ map Printed text) (log_behind shown (map Printed text) none ∙ log_text text)
+      prints_if shown none text false = tt
 
-      acted_fair : (d : Deed) → Fair (fr ∷ rest) (acted m fr rest out d)
-      acted_fair (Gives into v) =
-          let to : Frame = record fr { place = fr.place + 1; registers = (into, v) ∷ fr.registers } in
-          stays b (fr ∷ rest) (to ∷ rest) (same_place fr to rest refl refl)
-      acted_fair (Calls callee values) = calls_fair values (is_print m callee)
+      prints_fair : (shown : List Shown) → log shown ≡ [] → (values : List (Ty × Value)) → Fair (fr ∷ rest) (prints_first fr rest shared shown values)
+      prints_fair shown none [] = tt
+      prints_fair shown none (v ∷ vs) =
+          prints_if shown none (line_of (number_at I64 v.1)) (nat_le (shared.output + length (line_of (number_at I64 v.1))) output_most)
+
+      declared_if : (shown : List Shown) → log shown ≡ [] → (values : List (Ty × Value)) (c d : Bool) → Fair (fr ∷ rest) (cond c (prints_first fr rest shared shown values) (cond d (goes_to (waiting fr ∷ rest) shared shown) (fails trap.External)))
+      declared_if shown none values true d = prints_fair shown none values
+      declared_if shown none values false true = waits shown none
+      declared_if shown none values false false = tt
+
+      declared_fair : (shown : List Shown) → log shown ≡ [] → (name : List ℕ) (values : List (Ty × Value)) → Fair (fr ∷ rest) (declared fr rest shared shown name values)
+      declared_fair shown none name values = declared_if shown none values (same print_name name) (marks_lifetime name)
+
+      module _ (shown : List Shown) (none : log shown ≡ []) (into : Option (List ℕ × Ty)) (k' : ℕ) (f : Function) (values : List (Ty × Value)) where
+        abbrev begun_frame : Block → Frame
+        begun_frame c = record { function = k'; block = c.label; place = 0; registers = arguments f.params (map (λ v. v.1) values); base = shared.memory.next; into = into }
+
+        enters_if : (c : Block) → target m (Into k') ≡ Some c.label → (d : Bool) → Fair (fr ∷ rest) (cond d (goes_to (begun_frame c ∷ waiting fr ∷ rest) shared (shown ++ Entered k' ∷ [])) (fails trap.Depth))
+        enters_if c e true =
+            let one : log (shown ++ Entered k' ∷ []) ≡ Into k' ∷ [] = log_behind shown (Entered k' ∷ []) none in
+            let first : Balanced b [] (fr ∷ rest) (waiting fr ∷ rest) = waits [] refl in
+            let second : Balanced b (Into k' ∷ []) (waiting fr ∷ rest) (begun_frame c ∷ waiting fr ∷ rest) = enters b (begun_frame c) (waiting fr ∷ rest) e in
+            subst (λ ws. Balanced b ws (fr ∷ rest) (begun_frame c ∷ waiting fr ∷ rest)) (sym one) (balanced-append b [] (Into k' ∷ []) (fr ∷ rest) (waiting fr ∷ rest) (begun_frame c ∷ waiting fr ∷ rest) first second)
+        enters_if c e false = tt
+
+        blocks_fair : (bs : List Block) → target m (Into k') ≡ first_label bs → Fair (fr ∷ rest) (entered fr rest shared shown into k' f values bs)
+        blocks_fair [] e = declared_fair shown none f.name values
+        blocks_fair (c ∷ cs) e = enters_if c e (nat_lt (length (fr ∷ rest)) depth_most)
+
+      called_if : (through : Bool) (into : Option (List ℕ × Ty)) (values : List (Ty × Value)) (k' : ℕ) (f : Function) → function_at m k' ≡ Some f → (c : Bool) → Fair (fr ∷ rest) (cond c (entered fr rest shared (targeted through fr k') into k' f values f.blocks) (fails trap.Callee))
+      called_if through into values k' f e true =
+          blocks_fair (targeted through fr k') (log_targeted through fr k') into k' f values f.blocks (ap (λ o. option_and_then (λ (h : Function). first_label h.blocks) o) e)
+      called_if through into values k' f e false = tt
+
+      called_fair : (through : Bool) (into : Option (List ℕ × Ty)) (r : ReturnType) (values : List (Ty × Value)) (k' : ℕ) (o : Option Function) → function_at m k' ≡ o → Fair (fr ∷ rest) (called fr rest shared through into r values k' o)
+      called_fair through into r values k' None e = tt
+      called_fair through into r values k' (Some f) e = called_if through into values k' f e (fits r values f)
+
+      call_fair : (through : Bool) (into : Option (List ℕ × Ty)) (r : ReturnType) (values : List (Ty × Value)) (o : Option ℕ) → Fair (fr ∷ rest) (call_at m fr rest shared through into r values o)
+      call_fair through into r values None = tt
+      call_fair through into r values (Some k') = called_fair through into r values k' (function_at m k') refl
+
+      acted_fair : (d : Deed) → Fair (fr ∷ rest) (acted m fr rest shared d)
+      acted_fair (Gives into v memory whats) =
+          quiet (map (Did fr.function fr.block fr.place) whats) (fr ∷ rest) (past fr into v ∷ rest) (log_deeds fr.function fr.block fr.place whats) (same_place fr (past fr into v) rest refl refl)
+      acted_fair (Calls through into r address values) =
+          call_fair through into r values (function_at_address (functions_of m) address)
       acted_fair (Fails kind) = tt
 
       module _ (c : Block) (is_block : sought m fr.function fr.block ≡ Some c) where
         leads : (position : ℕ) → target m (Out fr.function fr.block position) ≡ slice_get (successors c.term) position
         leads position = ap (λ o. successor o position) is_block
 
-        walked_fair : (position : ℕ) (o : Option (List ℕ)) → slice_get (successors c.term) position ≡ o → Fair (fr ∷ rest) (walked m fr rest out position o)
+        walked_fair : (position : ℕ) (o : Option (List ℕ)) → slice_get (successors c.term) position ≡ o → Fair (fr ∷ rest) (walked m fr rest shared position o)
         walked_fair position None e = tt
         walked_fair position (Some to) e =
-            moves b fr (entering fr to (phis_in (sought m fr.function to))) rest position refl (leads position ∙ e)
+            moves b fr (entering m fr to (phis_in (sought m fr.function to))) rest position refl (leads position ∙ e)
 
-    resumed_place : (caller : Frame) (rest : List Frame) (into : Option (List ℕ)) (v : Option ℕ) → standing b (caller ∷ rest) ≡ standing b (resumed caller into v ∷ rest)
-    resumed_place caller rest (Some x) (Some v) =
-        same_place caller (record caller { registers = (x, v) ∷ caller.registers }) rest refl refl
-    resumed_place caller rest (Some x) None = refl
-    resumed_place caller rest None v = refl
+    resumed_place : (caller : Frame) (rest : List Frame) (into : Option (List ℕ × Ty)) (v : Option Value) → standing b (caller ∷ rest) ≡ standing b (resumed caller into v ∷ rest)
+    resumed_place caller rest into (Some v) = same_place caller (resumed caller into (Some v)) rest refl refl
+    resumed_place caller rest into None = refl
 
-    returned_fair : (fr : Frame) (rest : List Frame) (out : ℕ) (v : Option ℕ) → target m (Out fr.function fr.block 0) ≡ None → Fair (fr ∷ rest) (returned fr rest out v)
-    returned_fair fr [] out v e = leaves b fr [] 0 e
-    returned_fair fr (caller ∷ rest) out v e =
+    returned_fair : (fr : Frame) (rest : List Frame) (shared : Shared) (v : Option Value) → target m (Out fr.function fr.block 0) ≡ None → Fair (fr ∷ rest) (returned fr rest shared v)
+    returned_fair fr [] shared v e = leaves b fr [] 0 e
+    returned_fair fr (caller ∷ rest) shared v e =
         balanced-append b (Out fr.function fr.block 0 ∷ []) [] (fr ∷ caller ∷ rest) (caller ∷ rest) (resumed caller fr.into v ∷ rest) (leaves b fr (caller ∷ rest) 0 e) (stays b (caller ∷ rest) (resumed caller fr.into v ∷ rest) (resumed_place caller rest fr.into v))
 
-    module _ (fr : Frame) (rest : List Frame) (out : ℕ) (c : Block) (is_block : sought m fr.function fr.block ≡ Some c) where
-      left_fair : (t : Term) → c.term ≡ t → Fair (fr ∷ rest) (left m fr rest out (successors t) (choice fr.registers t))
+    module _ (fr : Frame) (rest : List Frame) (shared : Shared) (c : Block) (is_block : sought m fr.function fr.block ≡ Some c) where
+      left_fair : (t : Term) → c.term ≡ t → Fair (fr ∷ rest) (left m fr rest shared (successors t) (choice (value_of m fr.registers) t))
       left_fair (Br to) e =
-          walked_fair fr rest out c is_block 0 (Some to) (ap (λ x. slice_get (successors x) 0) e)
+          walked_fair fr rest shared c is_block 0 (Some to) (ap (λ x. slice_get (successors x) 0) e)
       left_fair (CondBr v first second prof) e =
-          let position : ℕ = cond (value_of fr.registers v == 0) 1 0 in
-          walked_fair fr rest out c is_block position (slice_get (first ∷ second ∷ []) position) (ap (λ x. slice_get (successors x) position) e)
-      left_fair (Switch ty v default cases prof) e = tt
+          let position : ℕ = cond (number_at I1 (value_of m fr.registers v) == 0) 1 0 in
+          walked_fair fr rest shared c is_block position (slice_get (first ∷ second ∷ []) position) (ap (λ x. slice_get (successors x) position) e)
+      left_fair (Switch ty v default cases prof) e =
+          let position : ℕ = case_position (number_at ty (value_of m fr.registers v)) cases in
+          walked_fair fr rest shared c is_block position (slice_get (successors (Switch ty v default cases prof)) position) (ap (λ x. slice_get (successors x) position) e)
       left_fair (Ret v) e =
           let ends : slice_get (successors c.term) 0 ≡ None = ap (λ x. slice_get (successors x) 0) e in
-          returned_fair fr rest out (returned_value fr.registers v) (leads fr rest out c is_block 0 ∙ ends)
+          returned_fair fr rest shared (option_map (λ u. at_type u.0 (value_of m fr.registers u.1)) v) (leads fr rest shared c is_block 0 ∙ ends)
       left_fair Unreachable e = tt
 
-      done_fair : (is : List Instr) → Fair (fr ∷ rest) (done m fr rest out is c.term)
+      done_fair : (is : List Instr) → Fair (fr ∷ rest) (done m fr rest shared is c.term)
       done_fair [] = left_fair c.term refl
-      done_fair (i ∷ is) = acted_fair fr rest out (deed fr.registers i)
+      done_fair (i ∷ is) = acted_fair fr rest shared (deed (value_of m fr.registers) (functions_of m) shared.memory i)
 
-    done_in_fair : (fr : Frame) (rest : List Frame) (out : ℕ) (o : Option Block) → sought m fr.function fr.block ≡ o → Fair (fr ∷ rest) (done_in m fr rest out o)
-    done_in_fair fr rest out None e = tt
-    done_in_fair fr rest out (Some c) e = done_fair fr rest out c e (drop fr.place (behind_phis c.instrs))
+    done_in_fair : (fr : Frame) (rest : List Frame) (shared : Shared) (o : Option Block) → sought m fr.function fr.block ≡ o → Fair (fr ∷ rest) (done_in m fr rest shared o)
+    done_in_fair fr rest shared None e = tt
+    done_in_fair fr rest shared (Some c) e = done_fair fr rest shared c e (drop fr.place (behind_phis c.instrs))
 
-    stepped_fair : (frames : List Frame) (out : ℕ) → Fair frames (stepped m frames out)
+    stepped_fair : (frames : List Frame) (shared : Shared) → Fair frames (stepped m frames shared)
     stepped_fair [] out = tt
-    stepped_fair (fr ∷ rest) out = done_in_fair fr rest out (sought m fr.function fr.block) refl
-
-    returned_later : (o : List Shown) (r : Ran Shown Stop) → HasReturned (shown_first o r) → HasReturned r
-    returned_later o (Open p) h = absurd h
-    returned_later o (Ended p (Returns v)) h = tt
-    returned_later o (Ended p (Traps kind)) h = absurd h
-
-    log_first : (o : List Shown) (r : Ran Shown Stop) → log_of (shown_first o r) ≡ log o ++ log_of r
-    log_first o (Open p) = log-append o p
-    log_first o (Ended p e) = log-append o p
+    stepped_fair (fr ∷ rest) shared = done_in_fair fr rest shared (sought m fr.function fr.block) refl
 
     balanced_on : (n : ℕ) → ((s : State) → HasReturned (run (step m) n s) → Balanced b (log_of (run (step m) n s)) s.frames []) → (before : List Frame) (x : Step) → Fair before x → HasReturned (go_on x (run (step m) n)) → Balanced b (log_of (go_on x (run (step m) n))) before []
     balanced_on n rec before (Goes o s) fair h =
@@ -228,22 +259,22 @@ module _ (m : Module) (k : ℕ) where
     balanced_run : (n : ℕ) (s : State) → HasReturned (run (step m) n s) → Balanced b (log_of (run (step m) n s)) s.frames []
     balanced_run zero s h = absurd h
     balanced_run (suc n) s h =
-        balanced_on n (balanced_run n) s.frames (step m s) (stepped_fair s.frames s.output) h
+        balanced_on n (balanced_run n) s.frames (step m s) (stepped_fair s.frames s.shared) h
 
-    entered_fair : (g : ℕ) (values : List ℕ) (f : Function) (bs : List Block) → target m (Into g) ≡ first_label bs → Fair [] (entered g values f bs)
-    entered_fair g values f [] e = tt
-    entered_fair g values f (c ∷ cs) e =
-        let fr : Frame = record { function = g; block = c.label; place = 0; registers = arguments f.params values; into = None } in
+    first_fair : (g : ℕ) (values : List ℕ) (f : Function) (bs : List Block) → target m (Into g) ≡ first_label bs → Fair [] (first_entered m g values f bs)
+    first_fair g values f [] e = tt
+    first_fair g values f (c ∷ cs) e =
+        let fr : Frame = record { function = g; block = c.label; place = 0; registers = arguments f.params (map Int values); base = (initial_memory m).next; into = None } in
         enters b fr [] e
 
-    begun_fair : (g : ℕ) (values : List ℕ) (o : Option Function) → function_at m g ≡ o → Fair [] (begun g values o)
+    begun_fair : (g : ℕ) (values : List ℕ) (o : Option Function) → function_at m g ≡ o → Fair [] (begun m g values o)
     begun_fair g values None e = tt
     begun_fair g values (Some f) e =
-        entered_fair g values f f.blocks (ap (λ o. option_and_then (λ (h : Function). first_label h.blocks) o) e)
+        first_fair g values f f.blocks (ap (λ o. option_and_then (λ (h : Function). first_label h.blocks) o) e)
 
     balanced_call : (c : Call) (n : ℕ) → HasReturned (run_of m c n) → Balanced b (log_of (run_of m c n)) [] []
     balanced_call c n h =
-        balanced_on n (balanced_run n) [] (begun c.function c.args (function_at m c.function)) (begun_fair c.function c.args (function_at m c.function) refl) h
+        balanced_on n (balanced_run n) [] (begun m c.function c.args (function_at m c.function)) (begun_fair c.function c.args (function_at m c.function) refl) h
 
   equal_of : (b : Option (List ℕ)) (ws : List Walk) → Balanced b ws [] [] → leading b ws ≡ coming b ws
   equal_of None ws e = omega (arith, e)

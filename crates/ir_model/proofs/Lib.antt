@@ -1,3 +1,4 @@
-pub mod Output
 pub mod Flow
+pub mod Output
 pub mod Worked
+pub mod Selects

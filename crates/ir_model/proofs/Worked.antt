@@ -1,119 +1,132 @@
--- The modules of the examples at work.
-use Rattle.std.proofs.Common.{◌≡◌, [], ◌∷◌, Some, None, refl, lit<}
-use Rattle.std.specs.Prelude.{codes, ◌-◌, ◌^◌}
-use Rattle.std.proofs.lemmas.Fmt.{decimal_digit}
+-- The modules of the examples at work: a result for each kind of instruction, and each trap that takes few steps. Values are
+-- computed by hand from the LLVM Language Reference.
+use Rattle.std.proofs.Common.{◌≡◌, ℕ, List, [], ◌∷◌, Some, None, true, false, refl}
+use Rattle.std.specs.Prelude.{codes, ◌^◌}
 use Rattle.ir_tree.specs.Functions.{print_name, is_profile_name}
-use Rattle.ir_tree.specs.Phis.{leading_phis}
-use Rattle.ir_model.specs.declared.result.End.TheVariants as end
-use Rattle.spec_machines.specs.Machine.{shown_of}
-use Rattle.ir_model.specs.State.{held, Entered, Walked}
-use Rattle.ir_model.specs.Step.{with_phis}
-use Rattle.ir_model.specs.Run.{run_of, result_of}
-use Rattle.ir_model.specs.Log.{Into, Out, log_of, traversals, traversals_of_all}
-use Rattle.ir_model.specs.Examples.{limited, result_after}
-use Rattle.ir_model.specs.PhiExamples.{turn_block, swap_result}
-use Rattle.ir_model.specs.LogExamples.{counting, count_to, times}
+use Rattle.ir_tree.specs.declared.types.Ty.TheVariants.{I1, I8, I16, I32, I64, Ptr}
+use Rattle.ir_tree.specs.declared.types.Ret.TheVariants as ret
+use Rattle.ir_tree.specs.declared.types.BinOp.TheVariants as binary
+use Rattle.ir_tree.specs.declared.types.Pred.TheVariants as pred
+use Rattle.ir_tree.specs.declared.types.ConvOp.TheVariants as conversions
+use Rattle.ir_tree.specs.declared.types.MemTy.TheVariants.{Scalar}
+use Rattle.ir_tree.specs.declared.types.Init.TheVariants as init
+use Rattle.ir_tree.specs.declared.types.Global1.{Global1}
+use Rattle.ir_tree.specs.declared.types.Operand.TheVariants.{Int, Null, Local, Global}
+use Rattle.ir_tree.specs.declared.types.Instr.TheVariants.{Compare, Freeze, Select, Alloca, Load, Store, Call}
+use Rattle.ir_tree.specs.declared.types.Term.TheVariants.{Br, CondBr, Switch, Ret, Unreachable}
+use Rattle.ir_tree.specs.Blocks.{block_with}
+use Rattle.ir_model.specs.declared.result.End.TheVariants.{Returned, Trapped, StepsSpent}
+use Rattle.ir_model.specs.declared.result.TrapKind.TheVariants as trap
+use Rattle.ir_model.specs.Examples.{operation, conversion, returning, ends, ends_in, module_of}
 
--- ---- numbers that are printed
+-- ---- operators
 
--- from 3 it prints 4 and returns 4, in five steps and not in four
-pub from_three : result_after 3 5 ≡ record { printed = codes "4\n"; end = end.Returned (Some 4) }
+-- 200 + 100 is 300, and 300 modulo 256 is 44
+pub sum_wraps : ends_in [] (operation binary.Add I8 200 100 ∷ []) (returning I8) 2 ≡ Returned (Some 44)
 unfolding print_name is_profile_name
-from_three = rw (decimal_digit 4 (lit< tt)) refl
+sum_wraps = refl
 
-pub from_three_so_far : result_after 3 4 ≡ record { printed = codes "4\n"; end = end.StepsSpent }
+-- one step less leaves the call open
+pub one_step_too_few : ends_in [] (operation binary.Add I8 200 100 ∷ []) (returning I8) 1 ≡ StepsSpent
 unfolding print_name is_profile_name
-from_three_so_far = rw (decimal_digit 4 (lit< tt)) refl
+one_step_too_few = refl
 
--- from 12 it prints nothing
-pub from_twelve : result_after 12 3 ≡ record { printed = []; end = end.Returned (Some 12) }
+-- -7 divided by 2 is -3, rounded towards 0: 253 of 8 bits
+pub quotient_towards_zero : ends_in [] (operation binary.SDiv I8 249 2 ∷ []) (returning I8) 2 ≡ Returned (Some 253)
 unfolding print_name is_profile_name
-from_twelve = refl
+quotient_towards_zero = refl
 
--- the highest number of 64 bits reads as -1, which is below 10
-pub from_minus_one : result_after (2 ^ 64 - 1) 3 ≡ record { printed = []; end = end.StepsSpent }
+-- a shift by the width gives 0, that of a negative number too
+pub wide_shift : ends_in [] (operation binary.AShr I8 128 8 ∷ []) (returning I8) 2 ≡ Returned (Some 0)
 unfolding print_name is_profile_name
-from_minus_one = refl
+wide_shift = refl
 
-pub walks : shown_of (run_of limited (record { function = 1; args = 12 ∷ [] }) 3) ≡ Entered 1 ∷ Walked 1 (codes "entry") 1 ∷ Walked 1 (codes "high") 0 ∷ []
+pub no_division_by_zero : ends_in [] (operation binary.UDiv I8 1 0 ∷ []) (returning I8) 2 ≡ Trapped trap.DivZero
 unfolding print_name is_profile_name
-walks = refl
+no_division_by_zero = refl
 
--- ---- phis
-
--- from (1, 2) one turn makes (2, 1): both phis read the values before
-pub exchanged_a : held (with_phis ((codes "a", 1) ∷ (codes "b", 2) ∷ []) (codes "turn") (leading_phis turn_block.instrs) ((codes "a", 1) ∷ (codes "b", 2) ∷ [])) (codes "a") ≡ 2
+-- -128 divided by -1
+pub no_overflow : ends_in [] (operation binary.SDiv I8 128 255 ∷ []) (returning I8) 2 ≡ Trapped trap.DivOverflow
 unfolding print_name is_profile_name
-exchanged_a = refl
+no_overflow = refl
 
-pub exchanged_b : held (with_phis ((codes "a", 1) ∷ (codes "b", 2) ∷ []) (codes "turn") (leading_phis turn_block.instrs) ((codes "a", 1) ∷ (codes "b", 2) ∷ [])) (codes "b") ≡ 1
+-- -1 is below 1
+pub signed_order : ends_in [] (Compare (codes "r") pred.Slt I8 (Int 255) (Int 1) ∷ []) (returning I1) 2 ≡ Returned (Some 1)
 unfolding print_name is_profile_name
-exchanged_b = refl
+signed_order = refl
 
--- with one round the values are as they came in, with two they are exchanged. A phi costs no step: one round takes a
--- branch, three steps in `turn` and two in `done`
-pub one_round : swap_result 1 6 ≡ record { printed = codes "1\n"; end = end.Returned (Some 2) }
+-- ---- conversions
+
+pub truncation : ends_in [] (conversion conversions.Trunc I16 258 I8 ∷ []) (returning I8) 2 ≡ Returned (Some 2)
 unfolding print_name is_profile_name
-one_round = rw (decimal_digit 1 (lit< tt)) refl
+truncation = refl
 
-pub one_round_so_far : swap_result 1 5 ≡ record { printed = codes "1\n"; end = end.StepsSpent }
+pub zero_extension : ends_in [] (conversion conversions.ZExt I8 255 I16 ∷ []) (returning I16) 2 ≡ Returned (Some 255)
 unfolding print_name is_profile_name
-one_round_so_far = rw (decimal_digit 1 (lit< tt)) refl
+zero_extension = refl
 
-pub two_rounds : swap_result 2 9 ≡ record { printed = codes "2\n"; end = end.Returned (Some 1) }
+pub sign_extension : ends_in [] (conversion conversions.SExt I8 255 I16 ∷ []) (returning I16) 2 ≡ Returned (Some 65535)
 unfolding print_name is_profile_name
-two_rounds = rw (decimal_digit 2 (lit< tt)) refl
+sign_extension = refl
 
--- ---- walks
-
--- to 0 it takes the branch, two steps in `head` and the return
-pub returns_none : result_of (run_of counting (count_to 0) 4) ≡ record { printed = []; end = end.Returned (Some 0) }
+pub frozen : ends_in [] (Freeze (codes "r") I8 (Int 7) ∷ []) (returning I8) 2 ≡ Returned (Some 7)
 unfolding print_name is_profile_name
-returns_none = refl
+frozen = refl
 
--- each round more takes two steps in `head` and two in `body`
-pub returns_three : result_of (run_of counting (count_to 3) 16) ≡ record { printed = []; end = end.Returned (Some 3) }
+-- a condition of 0 takes the second value
+pub second_selected : ends_in [] (Select (codes "r") (Int 0) I8 (Int 1) (Int 2) None ∷ []) (returning I8) 2 ≡ Returned (Some 2)
 unfolding print_name is_profile_name
-returns_three = refl
+second_selected = refl
 
-pub is_open_before : result_of (run_of counting (count_to 3) 15) ≡ record { printed = []; end = end.StepsSpent }
-unfolding print_name is_profile_name
-is_open_before = refl
+-- ---- memory
 
-pub log_to_none : log_of (run_of counting (count_to 0) 4) ≡ Into 0 ∷ Out 0 (codes "entry") 0 ∷ Out 0 (codes "head") 1 ∷ Out 0 (codes "done") 0 ∷ []
+-- what is stored is loaded; object 0 lies at 2 ^ 32
+pub stored_is_loaded : ends_in [] (Alloca (codes "p") (Scalar I16) ∷ Store I16 (Int 513) (Local (codes "p")) ∷ Load (codes "r") I16 (Local (codes "p")) ∷ []) (returning I16) 4 ≡ Returned (Some 513)
 unfolding print_name is_profile_name
-log_to_none = refl
+stored_is_loaded = refl
 
-pub enters : times None 0 ≡ 1
+pub first_object : ends_in [] (Alloca (codes "r") (Scalar I16) ∷ []) (returning Ptr) 2 ≡ Returned (Some (2 ^ 32))
 unfolding print_name is_profile_name
-enters = refl
+first_object = refl
 
-pub entry_to_head : times (Some 0) 0 ≡ 1
+-- two bytes are no four
+pub past_the_end : ends_in [] (Alloca (codes "p") (Scalar I16) ∷ Load (codes "r") I32 (Local (codes "p")) ∷ []) (returning I32) 3 ≡ Trapped trap.Access
 unfolding print_name is_profile_name
-entry_to_head = refl
+past_the_end = refl
 
-pub head_to_body : times (Some 1) 0 ≡ 3
-unfolding print_name is_profile_name
-head_to_body = refl
+abbrev constant_seven : Global1
+constant_seven = record { name = codes "c"; constant = true; mem = Scalar I8; init = init.Int 7 }
 
-pub head_to_done : times (Some 1) 1 ≡ 1
+pub constant_is_read : ends_in (constant_seven ∷ []) (Load (codes "r") I8 (Global (codes "c")) ∷ []) (returning I8) 2 ≡ Returned (Some 7)
 unfolding print_name is_profile_name
-head_to_done = refl
+constant_is_read = refl
 
-pub body_to_head : times (Some 2) 0 ≡ 3
+pub constant_stays : ends_in (constant_seven ∷ []) (Store I8 (Int 1) (Global (codes "c")) ∷ []) (Ret (Some (I8, Int 0))) 2 ≡ Trapped trap.Access
 unfolding print_name is_profile_name
-body_to_head = refl
+constant_stays = refl
 
-pub returns : times (Some 3) 0 ≡ 1
+-- eight bytes that are no pieces of a pointer
+pub no_pointer : ends_in [] (Alloca (codes "p") (Scalar I64) ∷ Store I64 (Int 5) (Local (codes "p")) ∷ Load (codes "r") Ptr (Local (codes "p")) ∷ []) (returning Ptr) 4 ≡ Trapped trap.BadPointer
 unfolding print_name is_profile_name
-returns = refl
+no_pointer = refl
 
--- no edge of another function is walked
-pub enters_no_other : traversals counting 1 None 0 (count_to 3) 16 ≡ 0
-unfolding print_name is_profile_name
-enters_no_other = refl
+-- ---- calls
 
--- calls to 0 and to 3 walk to `body` 0 + 3 times
-pub all_to_body : traversals_of_all counting 0 (Some 1) 0 (count_to 0 ∷ count_to 3 ∷ []) 16 ≡ 3
+pub no_function_at_null : ends_in [] (Call None ret.Void Null [] None ∷ []) (Ret (Some (I64, Int 0))) 2 ≡ Trapped trap.Callee
 unfolding print_name is_profile_name
-all_to_body = refl
+no_function_at_null = refl
+
+-- ---- terminators
+
+pub unreachable_traps : ends_in [] [] Unreachable 1 ≡ Trapped trap.Unreachable
+unfolding print_name is_profile_name
+unreachable_traps = refl
+
+-- of two equal cases the first counts, and the default is taken where none is equal
+pub first_case : ends (module_of [] (block_with (codes "entry") [] (Switch I64 (Local (codes "n")) (codes "a") ((5, codes "b") ∷ (5, codes "a") ∷ []) None) ∷ block_with (codes "a") [] (Ret (Some (I64, Int 1))) ∷ block_with (codes "b") [] (Ret (Some (I64, Int 2))) ∷ [])) 5 2 ≡ Returned (Some 2)
+unfolding print_name is_profile_name
+first_case = refl
+
+pub default_case : ends (module_of [] (block_with (codes "entry") [] (Switch I64 (Local (codes "n")) (codes "a") ((5, codes "b") ∷ []) None) ∷ block_with (codes "a") [] (Ret (Some (I64, Int 1))) ∷ block_with (codes "b") [] (Ret (Some (I64, Int 2))) ∷ [])) 4 2 ≡ Returned (Some 1)
+unfolding print_name is_profile_name
+default_case = refl

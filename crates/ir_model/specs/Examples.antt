@@ -1,63 +1,58 @@
--- The definitions at work, on the module
+-- The definitions at work, on modules of one function `f`
 --
---     declare void @print_i64(i64)
---     define i64 @g(i64 %n) {
+--     define i64 @f(i64 %n) {
 --     entry:
---       %c = icmp slt i64 %n, 10
---       br i1 %c, label %low, label %high
---     low:
---       %a = add i64 %n, 1
---       call void @print_i64(i64 %a)
---       ret i64 %a
---     high:
---       ret i64 %n
+--       ..
 --     }
-use Rattle.std.specs.Prelude.{ℕ, List, [], ◌∷◌, Some, None, false, codes}
+--
+-- of one block with these instructions, and on one that prints.
+use Rattle.std.specs.Prelude.{ℕ, List, [], ◌∷◌, Option, Some, None, false, codes}
+use Rattle.ir_tree.specs.declared.types.Ty.{Ty}
 use Rattle.ir_tree.specs.declared.types.Ty.TheVariants.{I64}
 use Rattle.ir_tree.specs.declared.types.Ret.TheVariants as ret
-use Rattle.ir_tree.specs.declared.types.BinOp.TheVariants as binary
-use Rattle.ir_tree.specs.declared.types.Pred.TheVariants as pred
+use Rattle.ir_tree.specs.declared.types.BinOp.{BinOp}
+use Rattle.ir_tree.specs.declared.types.ConvOp.{ConvOp}
+use Rattle.ir_tree.specs.declared.types.Flags.{Flags}
+use Rattle.ir_tree.specs.declared.types.Operand.{Operand}
 use Rattle.ir_tree.specs.declared.types.Operand.TheVariants.{Int, Local, Global}
 use Rattle.ir_tree.specs.declared.types.Instr.{Instr}
-use Rattle.ir_tree.specs.declared.types.Instr.TheVariants.{Binary, Compare, Call}
+use Rattle.ir_tree.specs.declared.types.Instr.TheVariants.{Binary, Convert, Call}
 use Rattle.ir_tree.specs.declared.types.Term.{Term}
-use Rattle.ir_tree.specs.declared.types.Term.TheVariants.{CondBr, Ret}
-use Rattle.ir_tree.specs.Blocks.{block_with}
+use Rattle.ir_tree.specs.declared.types.Term.TheVariants.{Ret}
+use Rattle.ir_tree.specs.declared.types.Global1.{Global1}
 use Rattle.ir_tree.specs.declared.types.Block.{Block}
 use Rattle.ir_tree.specs.declared.types.Function.{Function}
 use Rattle.ir_tree.specs.declared.types.Module.{Module}
+use Rattle.ir_tree.specs.Blocks.{block_with}
+use Rattle.ir_model.specs.declared.result.End.{End}
 use Rattle.ir_model.specs.declared.result.CallResult.{CallResult}
 use Rattle.ir_model.specs.Run.{run_of, result_of}
 
-abbrev pub print_call : List ℕ → Instr
-print_call x = Call None ret.Void (Global (codes "print_i64")) ((I64, Local x) ∷ []) None
+abbrev pub no_flags : Flags
+no_flags = record { nuw = false; nsw = false; exact = false }
 
-abbrev pub returning : List ℕ → Term
-returning x = Ret (Some (I64, Local x))
+-- `%r = OP T left, right`
+abbrev pub operation : BinOp → Ty → ℕ → ℕ → Instr
+operation o ty left right = Binary (codes "r") o no_flags ty (Int left) (Int right)
 
-abbrev pub entry_block : Block
-entry_block =
-    block_with (codes "entry") (Compare (codes "c") pred.Slt I64 (Local (codes "n")) (Int 10) ∷ []) (CondBr (Local (codes "c")) (codes "low") (codes "high") None)
+-- `%r = OP T value to U`
+abbrev pub conversion : ConvOp → Ty → ℕ → Ty → Instr
+conversion o from value to = Convert (codes "r") o no_flags from (Int value) to
 
-abbrev pub low_block : Block
-low_block =
-    block_with (codes "low")
-    (Binary (codes "a") binary.Add (record { nuw = false; nsw = false; exact = false }) I64 (Local (codes "n")) (Int 1)
-    ∷ print_call (codes "a") ∷ [])
-    (returning (codes "a"))
+-- `ret T %r`
+abbrev pub returning : Ty → Term
+returning ty = Ret (Some (ty, Local (codes "r")))
 
-abbrev pub high_block : Block
-high_block = block_with (codes "high") [] (returning (codes "n"))
+abbrev pub function_of : List Block → Function
+function_of blocks =
+    record { name = codes "f"; ret = ret.Value I64; params = (I64, codes "n") ∷ []; blocks = blocks; prof = None }
 
-abbrev pub declared_print : Function
-declared_print =
-    record { name = codes "print_i64"; ret = ret.Void; params = (I64, []) ∷ []; blocks = []; prof = None }
+abbrev pub module_of : List Global1 → List Block → Module
+module_of globals blocks = record { globals = globals; functions = function_of blocks ∷ [] }
 
-abbrev pub limited : Module
-limited = record {
-  globals = [];
-  functions = declared_print ∷ record { name = codes "g"; ret = ret.Value I64; params = (I64, codes "n") ∷ []; blocks = entry_block ∷ low_block ∷ high_block ∷ []; prof = None } ∷ [];
-}
+-- how the call `f(n)` ends within so many steps
+abbrev pub ends : Module → ℕ → ℕ → End
+ends m n steps = (result_of (run_of m (record { function = 0; args = n ∷ [] }) steps)).end
 
-abbrev pub result_after : ℕ → ℕ → CallResult
-result_after n steps = result_of (run_of limited (record { function = 1; args = n ∷ [] }) steps)
+abbrev pub ends_in : List Global1 → List Instr → Term → ℕ → End
+ends_in globals instrs t steps = ends (module_of globals (block_with (codes "entry") instrs t ∷ [])) 0 steps

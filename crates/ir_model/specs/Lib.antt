@@ -1,7 +1,11 @@
+pub mod Sizes
 pub mod State
+pub mod Values
+pub mod Initial
+pub mod Deed
 pub mod Step
 pub mod Run
 pub mod Log
+pub mod LogLaws
+pub mod Selects
 pub mod Examples
-pub mod PhiExamples
-pub mod LogExamples

@@ -1,5 +1,5 @@
 -- The edges that a run walks, how often it walks one, and when as many walks lead to each block as leave it.
-use Rattle.std.specs.Prelude.{◌≡◌, ℕ, ◌+◌, ◌==◌, List, [], ◌∷◌, Option, Some, None, Bool, true, false, ◌&&◌, slice_get, option_and_then}
+use Rattle.std.specs.Prelude.{◌≡◌, ℕ, ◌+◌, ◌==◌, List, [], ◌∷◌, ◌++◌, Option, Some, None, Bool, true, false, ◌&&◌, slice_get, option_and_then}
 use Rattle.std.specs.List.{count_by}
 use Rattle.ir_tree.specs.Blocks.{block_place}
 use Rattle.ir_tree.specs.Functions.{function_at}
@@ -10,7 +10,7 @@ use Rattle.ir_tree.specs.declared.types.Function.{Function}
 use Rattle.ir_tree.specs.declared.types.Module.{Module}
 use Rattle.ir_model.specs.declared.result.Call.{Call}
 use Rattle.spec_machines.specs.Machine.{Ran, Open, Ended, shown_of}
-use Rattle.ir_model.specs.State.{Shown, Printed, Entered, Walked, Stop, Returns, Traps}
+use Rattle.ir_model.specs.State.{Shown, Did, Targeted, Printed, Entered, Walked, Stop, Returns, Traps}
 use Rattle.ir_model.specs.Step.{sought}
 use Rattle.ir_model.specs.Run.{run_of}
 
@@ -21,11 +21,16 @@ pub data Walk : Type 0 where
   Out : (function : ℕ) (block : List ℕ) (position : ℕ) → Walk
 
 -- what of the things shown is a walk, in order
+abbrev pub logged : Shown → List Walk
+logged (Did k l place what) = []
+logged (Targeted k l place callee) = []
+logged (Printed b) = []
+logged (Entered k) = Into k ∷ []
+logged (Walked k l p) = Out k l p ∷ []
+
 abbrev pub log : List Shown → List Walk
 log [] = []
-log (Printed b ∷ xs) = log xs
-log (Entered k ∷ xs) = Into k ∷ log xs
-log (Walked k l p ∷ xs) = Out k l p ∷ log xs
+log (x ∷ xs) = logged x ++ log xs
 
 abbrev pub log_of : Ran Shown Stop → List Walk
 log_of ran = log (shown_of ran)

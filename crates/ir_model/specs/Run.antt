@@ -1,5 +1,5 @@
 -- The run of a call, what of it is a result, and which calls are valid.
-use Rattle.std.specs.Prelude.{◌≡◌, ℕ, ◌<◌, ◌≤◌, true, List, [], ◌∷◌, Option, Some, None, length, All}
+use Rattle.std.specs.Prelude.{◌≡◌, ℕ, ◌<◌, ◌≤◌, true, List, [], ◌∷◌, ◌++◌, Option, Some, None, length, map, All}
 use Rattle.ir_tree.specs.Functions.{function_at}
 use Rattle.ir_tree.specs.Types.{is_integer_of}
 use Rattle.ir_tree.specs.declared.types.Ty.{Ty}
@@ -10,24 +10,31 @@ use Rattle.ir_model.specs.declared.result.TrapKind.TheVariants as trap
 use Rattle.ir_model.specs.declared.result.End.TheVariants as end
 use Rattle.ir_model.specs.declared.result.CallResult.{CallResult}
 use Rattle.ir_model.specs.declared.result.Call.{Call}
-use Rattle.ir_model.specs.declared.probe.Event.{Event}
+use Rattle.ir_memory.specs.declared.value.Value.TheVariants.{Int}
+use Rattle.ir_model.specs.Initial.{initial_memory}
 use Rattle.spec_machines.specs.Machine.{Ran, Open, Ended, go_on, run, shown_of}
-use Rattle.ir_model.specs.State.{arguments, Shown, Printed, Entered, Walked, printed, Stop, Returns, Traps}
+use Rattle.ir_model.specs.State.{arguments, Shared, Shown, Did, Targeted, Printed, Entered, Walked, What, Added, Noted, Chose, printed, Stop, Returns, Traps}
 use Rattle.ir_model.specs.Step.{Step, fails, goes_to, step}
 
--- the state in which function k is entered with these arguments
-abbrev pub entered : ℕ → List ℕ → Function → List Block → Step
-entered k values f [] = fails trap.Unreachable
-entered k values f (b ∷ bs) =
-    goes_to (record { function = k; block = b.label; place = 0; registers = arguments f.params values; into = None } ∷ []) 0 (Entered k ∷ [])
+-- what the functions share at first: the globals, and nothing printed
+abbrev pub at_first : Module → Shared
+at_first m = record { memory = initial_memory m; output = 0 }
 
-abbrev pub begun : ℕ → List ℕ → Option Function → Step
-begun k values None = fails trap.Unreachable
-begun k values (Some f) = entered k values f f.blocks
+-- the state in which function k is entered with these arguments
+abbrev pub first_entered : Module → ℕ → List ℕ → Function → List Block → Step
+first_entered m k values f [] = fails trap.Unreachable
+first_entered m k values f (b ∷ bs) =
+    goes_to
+    (record { function = k; block = b.label; place = 0; registers = arguments f.params (map Int values); base = (initial_memory m).next; into = None } ∷ [])
+    (at_first m) (Entered k ∷ [])
+
+abbrev pub begun : Module → ℕ → List ℕ → Option Function → Step
+begun m k values None = fails trap.Unreachable
+begun m k values (Some f) = first_entered m k values f f.blocks
 
 -- The run of a call, which ends or has taken n steps
 abbrev pub run_of : Module → Call → ℕ → Ran Shown Stop
-run_of m c n = go_on (begun c.function c.args (function_at m c.function)) (run (step m) n)
+run_of m c n = go_on (begun m c.function c.args (function_at m c.function)) (run (step m) n)
 
 -- What was printed, and the end: the value that the call returned, its trap, or that it is still open
 abbrev pub result_of : Ran Shown Stop → CallResult
@@ -35,15 +42,24 @@ result_of (Open shown) = record { printed = printed shown; end = end.StepsSpent 
 result_of (Ended shown (Returns value)) = record { printed = printed shown; end = end.Returned value }
 result_of (Ended shown (Traps kind)) = record { printed = printed shown; end = end.Trapped kind }
 
--- What a probe sees: the additions to counters and the notes of call targets, in order. No instruction of the
--- language so far makes one.
-abbrev pub marks : List Shown → List Event
-marks [] = []
-marks (Printed b ∷ xs) = marks xs
-marks (Entered k ∷ xs) = marks xs
-marks (Walked k l p ∷ xs) = marks xs
+-- The marks of a run: what is added to counters and which call targets are noted, in order, by the names of their units
+abbrev pub mark_of : What → List What
+mark_of (Added unit counter amount) = Added unit counter amount ∷ []
+mark_of (Noted unit site callee) = Noted unit site callee ∷ []
+mark_of (Chose v) = []
 
-abbrev pub marks_of : Ran Shown Stop → List Event
+abbrev pub marks_one : Shown → List What
+marks_one (Did k l place what) = mark_of what
+marks_one (Targeted k l place callee) = []
+marks_one (Printed b) = []
+marks_one (Entered k) = []
+marks_one (Walked k l p) = []
+
+abbrev pub marks : List Shown → List What
+marks [] = []
+marks (x ∷ xs) = marks_one x ++ marks xs
+
+abbrev pub marks_of : Ran Shown Stop → List What
 marks_of ran = marks (shown_of ran)
 
 -- One argument for each parameter, each an integer of the parameter's type

@@ -1,184 +1,82 @@
--- What an instruction and a terminator mean, and the step of a module.
+-- The step of a module: one instruction other than a phi, or one terminator.
 --
--- A module that the checker accepts has the instructions and operands named here alone, its labels and functions are
--- found, its calls print, and its phis stand in front of their blocks and have an entry for each predecessor. Where
--- another module has something else, the step traps as `unreachable`; a phi without an entry gives 0.
-use Rattle.std.specs.Prelude.{ℕ, ◌+◌, ◌==◌, nat_le, List, [], ◌∷◌, ◌++◌, Option, Some, None, Result, Ok, Err, Bool, false, ◌&&◌, if◌then◌else◌, length, map, drop, slice_get, option_and_then}
+-- In a module that the checker accepts labels and functions are found, and phis stand in front of their blocks and have an
+-- entry for each predecessor. Where another module has something else, the step traps as `unreachable`; a phi without an
+-- entry gives 0.
+use Rattle.std.specs.Prelude.{ℕ, ◌+◌, ◌==◌, nat_le, nat_lt, List, [], ◌∷◌, ◌++◌, Option, Some, None, Bool, true, false, ◌&&◌, ◌||◌, if◌then◌else◌, length, map, drop, slice_get, option_and_then, codes}
 use Rattle.std.specs.Fmt.{signed_decimal}
+use Rattle.std.specs.Option.{option_map}
 use Rattle.ir_tree.specs.Blocks.{block_named}
-use Rattle.ir_tree.specs.Functions.{function_at, function_named, is_declared, print_name}
+use Rattle.ir_tree.specs.Functions.{function_at, print_name}
 use Rattle.ir_tree.specs.Names.{same}
-use Rattle.ir_tree.specs.Operands.{Entries, result_name}
+use Rattle.ir_tree.specs.Operands.{Entries, result_of}
 use Rattle.ir_tree.specs.Phis.{entries_of, leading_phis, behind_phis, value_for}
 use Rattle.ir_tree.specs.Successors.{successors}
+use Rattle.ir_tree.specs.Types.{value_of_ret, width_of}
 use Rattle.ir_value.specs.Integer.{signed_of}
-use Rattle.ir_value.specs.Operators.{binary_of, compare_of}
-use Rattle.ir_value.specs.declared.operators.ValueOp.{ValueOp}
-use Rattle.ir_value.specs.declared.operators.ValueOp.TheVariants as op
-use Rattle.ir_value.specs.declared.operators.ValuePred.{ValuePred}
-use Rattle.ir_value.specs.declared.operators.ValuePred.TheVariants as predicate
-use Rattle.ir_value.specs.declared.operators.DivTrap.{DivTrap}
-use Rattle.ir_value.specs.declared.operators.DivTrap.TheVariants as division
+use Rattle.ir_memory.specs.Memory.{MemoryState, dropped}
+use Rattle.ir_memory.specs.declared.value.Base.TheVariants.{Null}
+use Rattle.ir_memory.specs.declared.value.Value.{Value}
+use Rattle.ir_memory.specs.declared.value.Value.TheVariants as value
 use Rattle.ir_tree.specs.declared.types.Ty.{Ty}
-use Rattle.ir_tree.specs.declared.types.Ty.TheVariants.{I1, I8, I16, I32, I64, Ptr}
-use Rattle.ir_tree.specs.declared.types.BinOp.{BinOp}
-use Rattle.ir_tree.specs.declared.types.BinOp.TheVariants as binary
-use Rattle.ir_tree.specs.declared.types.Pred.{Pred}
-use Rattle.ir_tree.specs.declared.types.Pred.TheVariants as pred
+use Rattle.ir_tree.specs.declared.types.Ty.TheVariants.{I64}
+use Rattle.ir_tree.specs.declared.types.Ret.{Ret}
+use Rattle.ir_tree.specs.declared.types.Ret.TheVariants as ret
 use Rattle.ir_tree.specs.declared.types.Operand.{Operand}
 use Rattle.ir_tree.specs.declared.types.Operand.TheVariants.{Int, Null, Local, Global}
 use Rattle.ir_tree.specs.declared.types.Instr.{Instr}
-use Rattle.ir_tree.specs.declared.types.Instr.TheVariants.{Binary, Compare, Convert, Freeze, Select, Phi, Alloca, Load, Store, Gep, Call, Count}
 use Rattle.ir_tree.specs.declared.types.Term.{Term}
-use Rattle.ir_tree.specs.declared.types.Term.TheVariants.{Br, CondBr, Switch, Ret, Unreachable}
 use Rattle.ir_tree.specs.declared.types.Block.{Block}
 use Rattle.ir_tree.specs.declared.types.Function.{Function}
 use Rattle.ir_tree.specs.declared.types.Module.{Module}
 use Rattle.ir_model.specs.declared.result.TrapKind.{TrapKind}
 use Rattle.ir_model.specs.declared.result.TrapKind.TheVariants as trap
 use Rattle.spec_machines.specs.Machine.{Next, Goes, Stops}
-use Rattle.ir_model.specs.State.{Registers, held, Frame, State, Shown, Printed, Walked, Stop, Returns, Traps}
+use Rattle.ir_model.specs.Deed.{Deed, Gives, Calls, Fails, deed, Choice, Takes, Leaves, Breaks, choice}
+use Rattle.ir_model.specs.State.{Registers, held, arguments, Frame, Shared, State, What, Shown, Did, Targeted, Printed, Entered, Walked, Stop, Returns, Traps}
+use Rattle.ir_model.specs.Values.{as_number, at_type, function_at_address, functions_of, number_at, symbol_value}
 
--- the operators and predicates of `ir_value`, by their names
-abbrev pub operator : BinOp → ValueOp
-operator binary.Add = op.Add
-operator binary.Sub = op.Sub
-operator binary.Mul = op.Mul
-operator binary.UDiv = op.UDiv
-operator binary.SDiv = op.SDiv
-operator binary.URem = op.URem
-operator binary.SRem = op.SRem
-operator binary.Shl = op.Shl
-operator binary.LShr = op.LShr
-operator binary.AShr = op.AShr
-operator binary.And = op.And
-operator binary.Or = op.Or
-operator binary.Xor = op.Xor
+-- what an operand is worth
+abbrev pub value_of : Module → Registers → Operand → Value
+value_of m rs (Int n) = value.Int n
+value_of m rs Null = value.Pointer Null 0
+value_of m rs (Local x) = held rs x
+value_of m rs (Global x) = symbol_value m x
 
-abbrev pub comparison : Pred → ValuePred
-comparison pred.Eq = predicate.Eq
-comparison pred.Ne = predicate.Ne
-comparison pred.Ugt = predicate.Ugt
-comparison pred.Uge = predicate.Uge
-comparison pred.Ult = predicate.Ult
-comparison pred.Ule = predicate.Ule
-comparison pred.Sgt = predicate.Sgt
-comparison pred.Sge = predicate.Sge
-comparison pred.Slt = predicate.Slt
-comparison pred.Sle = predicate.Sle
-
-abbrev pub value_of : Registers → Operand → ℕ
-value_of rs (Int n) = n
-value_of rs Null = 0
-value_of rs (Local x) = held rs x
-value_of rs (Global x) = 0
+-- ---- phis
 
 -- the value that a phi takes, and 0 where it has no entry for the label
-abbrev pub taken : Registers → Option Operand → ℕ
-taken rs None = 0
-taken rs (Some o) = value_of rs o
+abbrev pub taken : Module → Registers → Option Operand → Value
+taken m rs None = value.Int 0
+taken m rs (Some o) = value_of m rs o
 
 -- the value of a phi with these entries, on the edge from the block of a label
-abbrev pub phi_value : Registers → List ℕ → Option Entries → ℕ
-phi_value rs from None = 0
-phi_value rs from (Some es) = taken rs (value_for from es)
+abbrev pub phi_value : Module → Registers → List ℕ → Option Entries → Value
+phi_value m rs from None = value.Int 0
+phi_value m rs from (Some es) = taken m rs (value_for from es)
+
+-- the registers, with a value of this type for this name
+abbrev pub with_typed : Option (List ℕ × Ty) → Value → Registers → Registers
+with_typed None v rs = rs
+with_typed (Some x) v rs = (x.0, at_type x.1 v) ∷ rs
+
+-- the result of an instruction with its type, where it has one
+abbrev pub typed : Option (List ℕ × Ret) → Option (List ℕ × Ty)
+typed None = None
+typed (Some (x, r)) = option_map (λ t. (x, t)) (value_of_ret r)
 
 -- the registers, with a value for the result of this name
-abbrev pub with_result : Option (List ℕ) → ℕ → Registers → Registers
-with_result None value rs = rs
-with_result (Some x) value rs = (x, value) ∷ rs
+abbrev pub with_result : Option (List ℕ) → Value → Registers → Registers
+with_result None v rs = rs
+with_result (Some x) v rs = (x, v) ∷ rs
 
 -- These registers after phis that all read the registers before; of two results of one name the later counts
-abbrev pub with_phis : Registers → List ℕ → List Instr → Registers → Registers
-with_phis before from [] rs = rs
-with_phis before from (i ∷ is) rs =
-    with_phis before from is (with_result (result_name i) (phi_value before from (entries_of i)) rs)
+abbrev pub with_phis : Module → Registers → List ℕ → List Instr → Registers → Registers
+with_phis m before from [] rs = rs
+with_phis m before from (i ∷ is) rs =
+    with_phis m before from is (with_typed (typed (result_of i)) (phi_value m before from (entries_of i)) rs)
 
--- What an instruction does: it gives a value to a register, calls a function with values, or fails
-pub data Deed : Type 0 where
-  Gives : (into : List ℕ) (value : ℕ) → Deed
-  Calls : (callee : List ℕ) (values : List ℕ) → Deed
-  Fails : (kind : TrapKind) → Deed
-
--- what an operator gives, or its trap
-abbrev pub computed : List ℕ → Result ℕ DivTrap → Deed
-computed into (Ok value) = Gives into value
-computed into (Err division.DivZero) = Fails trap.DivZero
-computed into (Err division.DivOverflow) = Fails trap.DivOverflow
-
--- the deed at the one integer type of the language so far
-abbrev pub at_i64 : Ty → Deed → Deed
-at_i64 I64 d = d
-at_i64 I1 d = Fails trap.Unreachable
-at_i64 I8 d = Fails trap.Unreachable
-at_i64 I16 d = Fails trap.Unreachable
-at_i64 I32 d = Fails trap.Unreachable
-at_i64 Ptr d = Fails trap.Unreachable
-
-abbrev pub call_of : Operand → List ℕ → Deed
-call_of (Global f) values = Calls f values
-call_of (Int n) values = Fails trap.Unreachable
-call_of Null values = Fails trap.Unreachable
-call_of (Local x) values = Fails trap.Unreachable
-
-abbrev pub deed : Registers → Instr → Deed
-deed rs (Binary into o flags ty left right) =
-    at_i64 ty (computed into (binary_of (operator o) 64 (value_of rs left) (value_of rs right)))
-deed rs (Compare into p ty left right) =
-    at_i64 ty (Gives into (if compare_of (comparison p) 64 (value_of rs left) (value_of rs right) then 1 else 0))
-deed rs (Convert into o flags from value to) = Fails trap.Unreachable
-deed rs (Freeze into ty value) = Fails trap.Unreachable
-deed rs (Select into c ty first second prof) = Fails trap.Unreachable
-deed rs (Phi into ty entries) = Fails trap.Unreachable
-deed rs (Alloca into mem) = Fails trap.Unreachable
-deed rs (Load into ty address) = Fails trap.Unreachable
-deed rs (Store ty value address) = Fails trap.Unreachable
-deed rs (Gep into inbounds mem address indices) = Fails trap.Unreachable
-deed rs (Call into ret callee values prof) = call_of callee (map (λ v. value_of rs v.1) values)
-deed rs (Count symbol size index step) = Fails trap.Unreachable
-
--- What a terminator does: it takes the successor at a position, returns, or fails
-pub data Choice : Type 0 where
-  Takes : (position : ℕ) → Choice
-  Leaves : (value : Option ℕ) → Choice
-  Breaks : (kind : TrapKind) → Choice
-
-abbrev pub returned_value : Registers → Option (Ty × Operand) → Option ℕ
-returned_value rs None = None
-returned_value rs (Some v) = Some (value_of rs v.1)
-
--- a condition of 0 takes the second successor
-abbrev pub choice : Registers → Term → Choice
-choice rs (Br to) = Takes 0
-choice rs (CondBr c first second prof) = Takes (if value_of rs c == 0 then 1 else 0)
-choice rs (Switch ty v default cases prof) = Breaks trap.Unreachable
-choice rs (Ret v) = Leaves (returned_value rs v)
-choice rs Unreachable = Breaks trap.Unreachable
-
--- the block of this label in function k
-abbrev pub sought : Module → ℕ → List ℕ → Option Block
-sought m k l = option_and_then (λ (f : Function). block_named f.blocks l) (function_at m k)
-
--- is a function there, and declared?
-abbrev pub declares : Option Function → Bool
-declares None = false
-declares (Some f) = is_declared f
-
--- does the module declare the function that prints?
-abbrev pub declares_print : Module → Bool
-declares_print m = declares (function_named m.functions print_name)
-
--- does this name the declared function that prints?
-abbrev pub is_print : Module → List ℕ → Bool
-is_print m x = same print_name x && declares_print m
-
--- the most bytes that one call prints
-abbrev pub output_most : ℕ
-output_most = 32768
-
--- a number of 64 bits in signed decimal, and a line feed
-abbrev pub line_of : ℕ → List ℕ
-line_of value = signed_decimal (signed_of 64 value) ++ 10 ∷ []
+-- ---- frames
 
 abbrev pub Step : Type 0
 Step = Next Shown Stop State
@@ -186,77 +84,167 @@ Step = Next Shown Stop State
 abbrev pub fails : TrapKind → Step
 fails kind = Stops [] (Traps kind)
 
-abbrev pub goes_to : List Frame → ℕ → List Shown → Step
-goes_to frames output shown = Goes shown (record { frames = frames; output = output })
+abbrev pub goes_to : List Frame → Shared → List Shown → Step
+goes_to frames shared shown = Goes shown (record { frames = frames; shared = shared })
+
+-- the block of this label in function k
+abbrev pub sought : Module → ℕ → List ℕ → Option Block
+sought m k l = option_and_then (λ (f : Function). block_named f.blocks l) (function_at m k)
 
 -- the phis of a block, none where it is not found
 abbrev pub phis_in : Option Block → List Instr
 phis_in None = []
 phis_in (Some b) = leading_phis b.instrs
 
--- the frame with one more instruction done, behind the phis of another block, and with one register assigned
-abbrev pub past : Frame → Frame
-past fr = record fr { place = fr.place + 1 }
+-- the frame with one more instruction done, and its register assigned
+abbrev pub past : Frame → Option (List ℕ) → Value → Frame
+past fr into v = record fr { place = fr.place + 1; registers = with_result into v fr.registers }
 
-abbrev pub entering : Frame → List ℕ → List Instr → Frame
-entering fr l ps =
-    record fr { block = l; place = 0; registers = with_phis fr.registers fr.block ps fr.registers }
+-- the frame that waits behind a call
+abbrev pub waiting : Frame → Frame
+waiting fr = record fr { place = fr.place + 1 }
 
-abbrev pub assigned : Frame → List ℕ → ℕ → Frame
-assigned fr x value = record fr { registers = (x, value) ∷ fr.registers }
+-- the frame in another block, behind its phis
+abbrev pub entering : Module → Frame → List ℕ → List Instr → Frame
+entering m fr l ps =
+    record fr { block = l; place = 0; registers = with_phis m fr.registers fr.block ps fr.registers }
 
-abbrev pub resumed : Frame → Option (List ℕ) → Option ℕ → Frame
-resumed fr (Some x) (Some value) = assigned fr x value
-resumed fr (Some x) None = fr
-resumed fr None value = fr
+-- a waiting frame that takes a result
+abbrev pub resumed : Frame → Option (List ℕ × Ty) → Option Value → Frame
+resumed fr into None = fr
+resumed fr into (Some v) = record fr { registers = with_typed into v fr.registers }
 
-abbrev pub prints : Frame → List Frame → ℕ → List ℕ → Step
-prints fr rest output text =
-    if nat_le (output + length text) output_most
-    then goes_to (past fr ∷ rest) (output + length text) (map Printed text)
+-- ---- calls
+
+abbrev pub same_width : Option ℕ → Option ℕ → Bool
+same_width None None = true
+same_width None (Some w) = false
+same_width (Some v) None = false
+same_width (Some v) (Some w) = v == w
+
+-- types are told apart by their widths, and a pointer by having none
+abbrev pub same_type : Ty → Ty → Bool
+same_type t u = same_width (width_of t) (width_of u)
+
+abbrev pub same_ret : Ret → Ret → Bool
+same_ret ret.Void ret.Void = true
+same_ret ret.Void (ret.Value u) = false
+same_ret (ret.Value t) ret.Void = false
+same_ret (ret.Value t) (ret.Value u) = same_type t u
+
+-- does a call with this type of return and these arguments fit the function?
+abbrev pub fits_params : List (Ty × List ℕ) → List (Ty × Value) → Bool
+fits_params [] [] = true
+fits_params [] (v ∷ vs) = false
+fits_params (p ∷ ps) [] = false
+fits_params (p ∷ ps) (v ∷ vs) = same_type p.0 v.0 && fits_params ps vs
+
+abbrev pub fits : Ret → List (Ty × Value) → Function → Bool
+fits r values f = same_ret f.ret r && fits_params f.params values
+
+-- the most bytes that one call prints, and the most frames
+abbrev pub output_most : ℕ
+output_most = 32768
+
+abbrev pub depth_most : ℕ
+depth_most = 512
+
+-- a number of 64 bits in signed decimal, and a line feed
+abbrev pub line_of : ℕ → List ℕ
+line_of n = signed_decimal (signed_of 64 n) ++ 10 ∷ []
+
+-- that a call through a register went to function k
+abbrev pub targeted : Bool → Frame → ℕ → List Shown
+targeted true fr k = Targeted fr.function fr.block fr.place k ∷ []
+targeted false fr k = []
+
+abbrev pub prints : Frame → List Frame → Shared → List Shown → List ℕ → Step
+prints fr rest shared shown text =
+    if nat_le (shared.output + length text) output_most
+    then goes_to (waiting fr ∷ rest) (record shared { output = shared.output + length text }) (shown ++ map Printed text)
     else fails trap.Output
 
-abbrev pub prints_first : Frame → List Frame → ℕ → List ℕ → Step
-prints_first fr rest output [] = fails trap.Unreachable
-prints_first fr rest output (value ∷ values) = prints fr rest output (line_of value)
+abbrev pub prints_first : Frame → List Frame → Shared → List Shown → List (Ty × Value) → Step
+prints_first fr rest shared shown [] = fails trap.External
+prints_first fr rest shared shown (v ∷ vs) = prints fr rest shared shown (line_of (number_at I64 v.1))
+
+-- the declared functions that do nothing (LLVM Language Reference, "Memory Use Markers")
+abbrev pub marks_lifetime : List ℕ → Bool
+marks_lifetime name = same (codes "llvm.lifetime.start.p0") name || same (codes "llvm.lifetime.end.p0") name
+
+-- a declared function does its work in the step of the call
+abbrev pub declared : Frame → List Frame → Shared → List Shown → List ℕ → List (Ty × Value) → Step
+declared fr rest shared shown name values =
+    if same print_name name
+    then prints_first fr rest shared shown values
+    else if marks_lifetime name then goes_to (waiting fr ∷ rest) shared shown else fails trap.External
+
+-- a defined function begins at its first block
+abbrev pub entered : Frame → List Frame → Shared → List Shown → Option (List ℕ × Ty) → ℕ → Function → List (Ty × Value) → List Block → Step
+entered fr rest shared shown into k f values [] = declared fr rest shared shown f.name values
+entered fr rest shared shown into k f values (b ∷ bs) =
+    if nat_lt (length (fr ∷ rest)) depth_most
+    then goes_to
+    (record { function = k; block = b.label; place = 0; registers = arguments f.params (map (λ v. v.1) values); base = shared.memory.next; into = into }
+    ∷ waiting fr ∷ rest)
+    shared (shown ++ Entered k ∷ [])
+    else fails trap.Depth
+
+-- a call of function k, if there is one
+abbrev pub called : Frame → List Frame → Shared → Bool → Option (List ℕ × Ty) → Ret → List (Ty × Value) → ℕ → Option Function → Step
+called fr rest shared through into r values k None = fails trap.Callee
+called fr rest shared through into r values k (Some f) =
+    if fits r values f then entered fr rest shared (targeted through fr k) into k f values f.blocks else fails trap.Callee
+
+abbrev pub call_at : Module → Frame → List Frame → Shared → Bool → Option (List ℕ × Ty) → Ret → List (Ty × Value) → Option ℕ → Step
+call_at m fr rest shared through into r values None = fails trap.Callee
+call_at m fr rest shared through into r values (Some k) = called fr rest shared through into r values k (function_at m k)
+
+-- ---- steps
 
 -- a step by an instruction
-abbrev pub acted : Module → Frame → List Frame → ℕ → Deed → Step
-acted m fr rest output (Gives into value) = goes_to (past (assigned fr into value) ∷ rest) output []
-acted m fr rest output (Calls callee values) =
-    if is_print m callee then prints_first fr rest output values else fails trap.Unreachable
-acted m fr rest output (Fails kind) = fails kind
+abbrev pub acted : Module → Frame → List Frame → Shared → Deed → Step
+acted m fr rest shared (Gives into v memory shown) =
+    goes_to (past fr into v ∷ rest) (record shared { memory = memory }) (map (Did fr.function fr.block fr.place) shown)
+acted m fr rest shared (Calls through into r address values) =
+    call_at m fr rest shared through into r values (function_at_address (functions_of m) address)
+acted m fr rest shared (Fails kind) = fails kind
 
 -- An edge is walked: the phis of its target are done in the same step
-abbrev pub walked : Module → Frame → List Frame → ℕ → ℕ → Option (List ℕ) → Step
-walked m fr rest output position None = fails trap.Unreachable
-walked m fr rest output position (Some to) =
-    goes_to (entering fr to (phis_in (sought m fr.function to)) ∷ rest) output (Walked fr.function fr.block position ∷ [])
+abbrev pub walked : Module → Frame → List Frame → Shared → ℕ → Option (List ℕ) → Step
+walked m fr rest shared position None = fails trap.Unreachable
+walked m fr rest shared position (Some to) =
+    goes_to (entering m fr to (phis_in (sought m fr.function to)) ∷ rest) shared (Walked fr.function fr.block position ∷ [])
 
-abbrev pub returned : Frame → List Frame → ℕ → Option ℕ → Step
-returned fr [] output value = Stops (Walked fr.function fr.block 0 ∷ []) (Returns value)
-returned fr (caller ∷ rest) output value =
-    goes_to (resumed caller fr.into value ∷ rest) output (Walked fr.function fr.block 0 ∷ [])
+-- the objects that a function allocated end where it returns
+abbrev pub ended : Frame → Shared → Shared
+ended fr shared = record shared { memory = dropped shared.memory fr.base }
+
+abbrev pub returned : Frame → List Frame → Shared → Option Value → Step
+returned fr [] shared v = Stops (Walked fr.function fr.block 0 ∷ []) (Returns (option_map as_number v))
+returned fr (caller ∷ rest) shared v =
+    goes_to (resumed caller fr.into v ∷ rest) (ended fr shared) (Walked fr.function fr.block 0 ∷ [])
 
 -- a step by a terminator with these successors
-abbrev pub left : Module → Frame → List Frame → ℕ → List (List ℕ) → Choice → Step
-left m fr rest output ss (Takes position) = walked m fr rest output position (slice_get ss position)
-left m fr rest output ss (Leaves value) = returned fr rest output value
-left m fr rest output ss (Breaks kind) = fails kind
+abbrev pub left : Module → Frame → List Frame → Shared → List (List ℕ) → Choice → Step
+left m fr rest shared ss (Takes position) = walked m fr rest shared position (slice_get ss position)
+left m fr rest shared ss (Leaves v) = returned fr rest shared v
+left m fr rest shared ss (Breaks kind) = fails kind
 
 -- a step at what is left of a block
-abbrev pub done : Module → Frame → List Frame → ℕ → List Instr → Term → Step
-done m fr rest output [] t = left m fr rest output (successors t) (choice fr.registers t)
-done m fr rest output (i ∷ is) t = acted m fr rest output (deed fr.registers i)
+abbrev pub done : Module → Frame → List Frame → Shared → List Instr → Term → Step
+done m fr rest shared [] t = left m fr rest shared (successors t) (choice (value_of m fr.registers) t)
+done m fr rest shared (i ∷ is) t =
+    acted m fr rest shared (deed (value_of m fr.registers) (functions_of m) shared.memory i)
 
-abbrev pub done_in : Module → Frame → List Frame → ℕ → Option Block → Step
-done_in m fr rest output None = fails trap.Unreachable
-done_in m fr rest output (Some b) = done m fr rest output (drop fr.place (behind_phis b.instrs)) b.term
+abbrev pub done_in : Module → Frame → List Frame → Shared → Option Block → Step
+done_in m fr rest shared None = fails trap.Unreachable
+done_in m fr rest shared (Some b) = done m fr rest shared (drop fr.place (behind_phis b.instrs)) b.term
 
-abbrev pub stepped : Module → List Frame → ℕ → Step
-stepped m [] output = fails trap.Unreachable
-stepped m (fr ∷ rest) output = done_in m fr rest output (sought m fr.function fr.block)
+abbrev pub stepped : Module → List Frame → Shared → Step
+stepped m [] shared = fails trap.Unreachable
+stepped m (fr ∷ rest) shared = done_in m fr rest shared (sought m fr.function fr.block)
 
 -- One instruction or one terminator of the function that was called last
 abbrev pub step : Module → State → Step
-step m s = stepped m s.frames s.output
+step m s = stepped m s.frames s.shared

@@ -6,6 +6,6 @@ mod laws;
 mod probe;
 mod result;
 
-pub use laws::{more_steps_go_on, output_is_bounded, walks_are_a_flow};
+pub use laws::{more_steps_go_on, output_is_bounded, selects_are_seen, walks_are_a_flow};
 pub use probe::{Event, Probe, QuietProbe, Tally};
 pub use result::{Call, CallResult, End, TrapKind};

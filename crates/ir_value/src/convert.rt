@@ -1,5 +1,5 @@
 //! Conversions between widths.
-ghost use Rattle.std.specs.Prelude.{◌≡◌, ◌^◌, ◌<◌, ◌≤◌};
+ghost use Rattle.std.specs.Prelude.{◌≡◌, ◌^◌, ◌<◌, ◌≤◌, true};
 ghost use Rattle.ir_value.specs.Integer.{IsWidth, truncated};
 ghost use Rattle.ir_value.specs.Operators.{extended};
 
@@ -21,6 +21,17 @@ pub fn extend(signed: bool, from: u32, to: u32, value: u64) -> u64
     } else {
         value
     }
+}
+
+/// The integer of `to` bits that is congruent to the signed reading of `value`, one of `from` bits, whichever width is
+/// the greater.
+pub fn convert_signed(from: u32, to: u32, value: u64) -> u64
+    requires from { IsWidth from }
+    requires to { IsWidth to }
+    requires value { value < 2 ^ from }
+    ensures value { result ≡ extended true from to value }
+{
+    wrap(to, signed_reading(from, value))
 }
 
 /// The lowest `to` bits of `value` (`trunc`). LLVM Language Reference, "Conversion Operations".

@@ -7,7 +7,7 @@ mod operators;
 mod shift;
 mod words;
 
-pub use convert::{extend, truncate};
+pub use convert::{convert_signed, extend, truncate};
 pub use operators::{DivTrap, ValueOp, ValuePred, binary, compare};
 
 #[cfg(test)]

@@ -5,14 +5,15 @@ use Rattle.pgo_words.specs.Table.{planned}
 use Rattle.pgo_shell.specs.Shell.{Task, error_line}
 use Rattle.command_check.specs.Check.{CheckFiles, check_task}
 use Rattle.command_merge.specs.Merge.{MergeFiles, merge_task}
-use Rattle.command_run.specs.Run.{RunFiles, run_task}
-use Rattle.command_chain.specs.Chain.{ChainFiles, chain_task}
+use Rattle.command_run.specs.OnCalls.{CallFiles}
+use Rattle.command_run.specs.Run.{run_task}
+use Rattle.command_chain.specs.Chain.{chain_task}
 use Rattle.command_show.specs.Show.{ShowFiles, show_task}
 
 pub data Asked : Type 0 where
   AsksCheck : CheckFiles → Asked
-  AsksRun : RunFiles → Asked
-  AsksChain : ChainFiles → Asked
+  AsksRun : CallFiles → Asked
+  AsksChain : CallFiles → Asked
   AsksMerge : MergeFiles → Asked
   AsksShow : ShowFiles → Asked
 

@@ -1,3 +1,4 @@
+pub mod Many
 pub mod Runs
 pub mod Steps
 pub mod Views

@@ -8,7 +8,7 @@ use Rattle.ir_tree.specs.declared.types.Module.{Module}
 use Rattle.ir_model.specs.declared.result.CallResult.{CallResult}
 use Rattle.call_list.specs.Outcome.{outcome_of}
 use Rattle.pgo_shell.specs.Product.{bytes_of}
-use Rattle.command_run.specs.Run.{first_unreturned, or_else, outcomes, unreturned}
+use Rattle.command_run.specs.Outcomes.{first_unreturned, or_else, outcomes, unreturned}
 use Rattle.command_chain.proofs.ChainLemmas.{low_enough, low_turn, walked_begins, walked_ends, walked_turn}
 use Rattle.command_run.specs.OutcomeLaws.{halts_end, halts_turn, next_call, outcomes_end, outcomes_turn, result_is}
 use Rattle.command_chain.proofs.chain.trace_all.Goals as goal

@@ -1,7 +1,7 @@
 use Rattle.std.proofs.Common.{◌≡◌, ◌++◌, drop}
 use Rattle.std.specs.Option.{option_map}
 use Rattle.pgo_shell.specs.Product.{bytes_of}
-use Rattle.command_run.specs.Run.{first_unreturned, or_else, outcomes}
+use Rattle.command_run.specs.Outcomes.{first_unreturned, or_else, outcomes}
 use Rattle.command_chain.proofs.ChainLemmas.{IsLow, Walked}
 use Rattle.command_chain.proofs.chain.trace_all.Given as goal
 

@@ -7,7 +7,7 @@ use Rattle.ir_tree.specs.declared.types.Module.{Module}
 use Rattle.ir_model.specs.declared.result.CallResult.{CallResult}
 use Rattle.call_list.specs.Outcome.{outcome_of}
 use Rattle.pgo_shell.specs.Product.{bytes_of, bytes_of_all}
-use Rattle.command_run.specs.Run.{outcomes, or_else, unreturned}
+use Rattle.command_run.specs.Outcomes.{outcomes, or_else, unreturned}
 use Rattle.command_run.specs.OutcomeLaws.{halts_turn, next_call, outcomes_turn, result_is, run_ends}
 use Rattle.command_run.proofs.run.run_all.Goals as goal
 

@@ -1,7 +1,7 @@
 use Rattle.std.proofs.Common.{◌≡◌, ◌++◌, drop}
 use Rattle.std.specs.Option.{option_map}
 use Rattle.pgo_shell.specs.Product.{bytes_of}
-use Rattle.command_run.specs.Run.{first_unreturned, or_else, outcomes}
+use Rattle.command_run.specs.Outcomes.{first_unreturned, or_else, outcomes}
 use Rattle.command_run.proofs.run.run_all.Given as goal
 
 -- what is left of the calls, after what was made so far, gives what all of them give

@@ -8,4 +8,4 @@ use Rattle.ir_model.proofs.laws.more_steps_go_on.Goals as goal
 
 pub returns : goal.returns
 returns c m call n k =
-    within_on (begun call.function call.args (function_at m call.function)) (run (step m) n) (run (step m) (n + k)) (run_more (step m) n k)
+    within_on (begun m call.function call.args (function_at m call.function)) (run (step m) n) (run (step m) (n + k)) (run_more (step m) n k)

@@ -1,0 +1,4 @@
+pub mod Like
+pub mod Agree
+pub mod Registers
+pub mod Frames

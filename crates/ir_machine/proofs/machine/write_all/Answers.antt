@@ -1,8 +1,0 @@
-use Rattle.std.proofs.Common.{◌∙◌}
-use Rattle.ir_machine.proofs.Moves.{put_more}
-use Rattle.ir_machine.proofs.machine.write_all.Goals as goal
-
-pub loop-i-preserved : goal.loop-i-preserved
-loop-i-preserved c =
-    put_more c.loop-i.registers c.assign.new.registers c.args.moves.now c.args.values.now c.loop-i.i c.number_at-value.result _ c.loop-i-test.true c.number_at-value.ensures c.assign.ensures
-    ∙ c.loop-i.invariant

@@ -1,0 +1,303 @@
+// Calls: by address and signature, into a defined function or to do the work of a declared one.
+ghost use Rattle.std.specs.Prelude.{◌≡◌, ◌<◌, ◌^◌, List, ◌∷◌, map, Some, None, length, nat_lt, IfOk, OnOk};
+ghost use Rattle.ir_tree.specs.declared.types.Ty.TheVariants.{I64};
+ghost use Rattle.ir_memory.specs.declared.value.Value.{Value};
+ghost use Rattle.ir_memory.specs.declared.value.Value.TheVariants as value;
+ghost use Rattle.ir_model.specs.Step as model;
+ghost use Rattle.ir_model.specs.Step.{line_of};
+ghost use Rattle.ir_model.specs.Values as values;
+ghost use Rattle.ir_machine.specs.Steps as spec;
+ghost use Rattle.ir_machine.specs.Steps.{input_value, noted_at, valued, Comes, Does, DoesAlone, Prints, waiting_of};
+
+use crate::registers::value_of;
+use crate::state::{Frame, Machine, Sight, Turn};
+use ir_code::{FunctionCode, Input, Span, Target, Work, as_number, at_type, number_at};
+use ir_memory::Value;
+use ir_model::TrapKind;
+use ir_tree::{Ret, Seq, Ty};
+use itoa::Buffer;
+use pgo_base::NoMemory;
+use std::alloc::Global;
+use std::mem;
+
+/// The most bytes that one call prints.
+const OUTPUT_MOST: usize = 32_768;
+
+/// The most functions that run.
+const DEPTH_MOST: usize = 512;
+
+/// The number of the function at an address, of this many: function k lies at 16 * (k + 1).
+fn function_at(count: usize, address: u64) -> Option<usize>
+    requires { count < 2 ^ 63 }
+    ensures { result ≡ values.function_at_address count address }
+{
+    if address % 16 == 0 && address != 0 && address / 16 < count as u64 + 1 {
+        return Some((address / 16 - 1) as usize);
+    }
+    None
+}
+
+/// Whether two types are one: they are told apart by their widths.
+fn is_same_type(left: Ty, right: Ty) -> bool
+    ensures { result ≡ model.same_type left right }
+{
+    match (left.width(), right.width()) {
+        (None, None) => true,
+        (Some(left), Some(right)) => left == right,
+        (None, Some(_)) | (Some(_), None) => false,
+    }
+}
+
+/// Whether two types of return are one.
+fn is_same_ret(left: Ret, right: Ret) -> bool
+    ensures { result ≡ model.same_ret left right }
+{
+    match (left, right) {
+        (Ret::Void, Ret::Void) => true,
+        (Ret::Value(left), Ret::Value(right)) => is_same_type(left, right),
+        (Ret::Void, Ret::Value(_)) | (Ret::Value(_), Ret::Void) => false,
+    }
+}
+
+/// The values of arguments in order, in place of what `values` held.
+fn read_args(
+    registers: &[Value],
+    args: &[(Ty, Input)],
+    values: &mut Vec<Value>,
+) -> Result<(), NoMemory>
+    ensures { OnOk result (values.new.items ≡ map (λ a. input_value registers.now a.1) args.now) }
+{
+    values.clear();
+    for (_, input) in args {
+        values.push(value_of(registers, *input))?;
+    }
+    Ok(())
+}
+
+/// Whether arguments have the types of parameters.
+fn fit_params(params: &[Ty], args: &[(Ty, Input)]) -> bool
+    ensures { (regs : List Value) → result ≡ spec.fits_params params.now (map (valued regs) args.now) }
+{
+    if params.len() != args.len() {
+        return false;
+    }
+    for (i, arg) in args.iter().enumerate() {
+        if !is_same_type(params[i], arg.0) {
+            return false;
+        }
+    }
+    true
+}
+
+/// The registers of a function that begins: its parameters with these values, and the others 0. They take the place of
+/// `spare`.
+#[inline]
+pub fn first_registers(
+    spare: Seq<Value>,
+    function: &FunctionCode,
+    values: &[Value],
+) -> Result<Seq<Value>, NoMemory>
+    ensures { IfOk result (λ r. r ≡ spec.first_registers function.now values.now) }
+{
+    let mut registers = spare.take();
+    registers.clear();
+    for (i, ty) in function.params.as_slice().iter().enumerate() {
+        if let Some(value) = values.get(i) {
+            registers.push(at_type(*ty, *value))?;
+        }
+    }
+    registers.resize(function.registers, Value::Int(0))?;
+    Ok(Seq::of(registers))
+}
+
+/// Appends a number and a line feed, if that is not too much. Answers whether it did.
+fn print_line(printed: &mut Vec<u8>, value: u64) -> Result<bool, NoMemory>
+    ensures { IfOk result (λ fits. Prints (line_of value) printed.old.items fits printed.new.items) }
+{
+    let mut buffer = Buffer::new();
+    let digits = buffer.format(value.cast_signed()).as_bytes();
+    let room = OUTPUT_MOST.saturating_sub(printed.len());
+    if digits.len() >= room {
+        return Ok(false);
+    }
+    printed.extend_from_slice(digits)?;
+    printed.push(b'\n')?;
+    Ok(true)
+}
+
+/// Prints a number and a line feed, or stops where that is too much.
+fn print(machine: &mut Machine, value: u64) -> Result<Turn, NoMemory>
+    ensures { IfOk result (λ turn. Comes machine.old (λ fr rest sh. spec.prints fr rest sh (line_of value)) turn machine.new) }
+{
+    if print_line(&mut machine.printed, value)? {
+        return Ok(Turn::Goes);
+    }
+    Ok(Turn::Traps(TrapKind::Output))
+}
+
+/// Prints the first argument.
+fn print_first(machine: &mut Machine, args: &[(Ty, Input)]) -> Result<Turn, NoMemory>
+    ensures { IfOk result (λ turn. Comes machine.old (λ fr rest sh. spec.prints_first fr rest sh (map (valued machine.old.top.registers) args.now)) turn machine.new) }
+{
+    match args.first() {
+        Some((_, input)) => {
+            let value = value_of(machine.top.registers.as_slice(), *input);
+            print(machine, number_at(Ty::I64, value))
+        }
+        None => Ok(Turn::Traps(TrapKind::External)),
+    }
+}
+
+/// The work of a declared function.
+fn do_work(machine: &mut Machine, work: Work, args: &[(Ty, Input)]) -> Result<Turn, NoMemory>
+    ensures { IfOk result (λ turn. Comes machine.old (λ fr rest sh. spec.declared fr rest sh work (map (valued machine.old.top.registers) args.now)) turn machine.new) }
+{
+    match work {
+        Work::Print => print_first(machine, args),
+        Work::Nothing => Ok(Turn::Goes),
+        Work::External => Ok(Turn::Traps(TrapKind::External)),
+    }
+}
+
+/// The frame of a function that begins with these arguments.
+fn first_frame(
+    machine: &mut Machine,
+    into: Option<Target>,
+    number: usize,
+    function: &FunctionCode,
+    args: &[(Ty, Input)],
+) -> Result<Frame, NoMemory>
+    ensures frame { IfOk result (λ frame. frame ≡ spec.first_frame number function.now (map (λ a. input_value machine.old.top.registers a.1) args.now) machine.old.memory.next into) }
+    ensures rest { (machine.new.top ≡ machine.old.top) × (machine.new.callers ≡ machine.old.callers) × (machine.new.memory ≡ machine.old.memory) × (machine.new.printed ≡ machine.old.printed) }
+{
+    read_args(machine.top.registers.as_slice(), args, &mut machine.moved)?;
+    let alloc = *machine.callers.allocator();
+    let spare = mem::replace(&mut machine.spare, Seq::new(alloc));
+    let registers = first_registers(spare, function, machine.moved.as_slice())?;
+    Ok(Frame {
+        function: number,
+        block: 0,
+        place: 0,
+        registers,
+        base: machine.memory.next(),
+        into,
+    })
+}
+
+/// Has a frame run; the one that ran waits for it.
+#[tactic(auto, using(crate::proofs::Stacks::reverse_push))]
+fn push(machine: &mut Machine, frame: Frame) -> Result<(), NoMemory>
+    ensures stack { OnOk result ((machine.new.top ≡ frame) × (waiting_of machine.new ≡ machine.old.top ∷ waiting_of machine.old)) }
+    ensures rest { OnOk result ((machine.new.memory ≡ machine.old.memory) × (machine.new.printed ≡ machine.old.printed)) }
+{
+    let caller = mem::replace(&mut machine.top, frame);
+    machine.callers.push(caller)?;
+    Ok(())
+}
+
+/// A function begins with these arguments.
+fn begin(
+    machine: &mut Machine,
+    into: Option<Target>,
+    number: usize,
+    function: &FunctionCode,
+    args: &[(Ty, Input)],
+) -> Result<Turn, NoMemory>
+    ensures { IfOk result (λ turn. Comes machine.old (λ fr rest sh. spec.enters fr rest sh into number function.now (map (λ v. v.1) (map (valued machine.old.top.registers) args.now))) turn machine.new) }
+{
+    let frame = first_frame(machine, into, number, function, args)?;
+    push(machine, frame)?;
+    Ok(Turn::Sees(Sight::Entered { function: number }))
+}
+
+/// Whether one more function may run.
+fn has_room(machine: &Machine) -> bool
+    ensures { result ≡ nat_lt (length (machine.now.top ∷ waiting_of machine.now)) model.depth_most }
+{
+    machine.callers.len() + 1 < DEPTH_MOST
+}
+
+/// A function is entered, or does its work where it is declared.
+fn enter(
+    machine: &mut Machine,
+    into: Option<Target>,
+    number: usize,
+    function: &FunctionCode,
+    args: &[(Ty, Input)],
+) -> Result<Turn, NoMemory>
+    ensures { IfOk result (λ turn. Comes machine.old (λ fr rest sh. spec.entered fr rest sh into number function.now (map (valued machine.old.top.registers) args.now) function.now.blocks) turn machine.new) }
+{
+    if function.blocks.is_empty() {
+        return do_work(machine, function.work, args);
+    }
+    if !has_room(machine) {
+        return Ok(Turn::Traps(TrapKind::Depth));
+    }
+    begin(machine, into, number, function, args)
+}
+
+/// A call of a function, which traps where the signature differs.
+fn call_function(
+    machine: &mut Machine,
+    into: Option<Target>,
+    ret: Ret,
+    number: usize,
+    function: &FunctionCode,
+    args: &[(Ty, Input)],
+) -> Result<Turn, NoMemory>
+    ensures { IfOk result (λ turn. Comes machine.old (λ fr rest sh. spec.called fr rest sh into ret (map (valued machine.old.top.registers) args.now) number (Some function.now)) turn machine.new) }
+{
+    let fits = is_same_ret(function.ret, ret) && fit_params(function.params.as_slice(), args);
+    if !fits {
+        return Ok(Turn::Traps(TrapKind::Callee));
+    }
+    enter(machine, into, number, function, args)
+}
+
+/// A call of the function at an address.
+pub fn call(
+    functions: &[FunctionCode],
+    machine: &mut Machine,
+    into: Option<Target>,
+    ret: Ret,
+    callee: Input,
+    args: &[(Ty, Input)],
+) -> Result<Turn, NoMemory>
+    ensures { IfOk result (λ turn. Does functions.now machine.old (spec.Calls into ret (values.as_number (input_value machine.old.top.registers callee)) (map (valued machine.old.top.registers) args.now)) turn machine.new) }
+{
+    let address = as_number(value_of(machine.top.registers.as_slice(), callee));
+    let Some(number) = function_at(functions.len(), address) else {
+        return Ok(Turn::Traps(TrapKind::Callee));
+    };
+    match functions.get(number) {
+        Some(function) => call_function(machine, into, ret, number, function, args),
+        None => Ok(Turn::Traps(TrapKind::Callee)),
+    }
+}
+
+/// The function at an address is noted at a site of a unit; a site that the unit does not have is not told.
+pub fn note(
+    functions: usize,
+    machine: &Machine,
+    unit: Span,
+    site: Input,
+    target: Input,
+) -> Result<Turn, NoMemory>
+    requires { functions < 2 ^ 63 }
+    ensures { IfOk result (λ turn. DoesAlone machine.now (spec.Gives None (value.Int 0) machine.now.memory (noted_at unit (values.as_number (input_value machine.now.top.registers site)) (values.function_at_address functions (values.number_at I64 (input_value machine.now.top.registers target))))) turn machine.now) }
+{
+    let registers = machine.top.registers.as_slice();
+    let address = number_at(Ty::I64, value_of(registers, target));
+    let Some(callee) = function_at(functions, address) else {
+        return Ok(Turn::Goes);
+    };
+    let site = as_number(value_of(registers, site));
+    if site >= u64::from(unit.count) {
+        return Ok(Turn::Goes);
+    }
+    match (unit.first.checked_add(site as u32), u32::try_from(callee)) {
+        (Some(site), Ok(callee)) => Ok(Turn::Sees(Sight::Noted { site, callee })),
+        // No accepted module has so many sites or functions.
+        _ => Err(NoMemory),
+    }
+}

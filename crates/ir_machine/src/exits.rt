@@ -1,0 +1,162 @@
+// Leaving a block: by an edge, or by a return.
+ghost use Rattle.std.specs.Prelude.{◌≡◌, ◌==◌, Some, position, slice_get, IfOk};
+ghost use Rattle.std.specs.Option.{option_map};
+ghost use Rattle.ir_model.specs.Deed.{Takes, Leaves, behind_default};
+ghost use Rattle.ir_model.specs.Values as values;
+ghost use Rattle.ir_machine.specs.Steps as spec;
+ghost use Rattle.ir_machine.specs.Steps.{input_value, Comes};
+ghost use Rattle.ir_machine.specs.declared.state.Sight.TheVariants as sight;
+
+use crate::registers::{assign_target, move_all, value_of};
+use crate::state::{Machine, Sight, Turn};
+use ir_code::{Cases, EdgeCode, Exit, Input, Target, as_number, at_type, number_at};
+use ir_memory::Value;
+use ir_model::TrapKind;
+use ir_tree::Ty;
+use pgo_base::NoMemory;
+use std::mem;
+
+/// The edge of the block by the successor at a position, as it is seen.
+fn sight_of(machine: &Machine, position: usize) -> Sight
+    ensures { result ≡ sight.Left machine.now.top.function machine.now.top.block position }
+{
+    Sight::Left {
+        function: machine.top.function,
+        block: machine.top.block,
+        position,
+    }
+}
+
+/// Goes over an edge, the one of its block at this position: the phis of its target are done together.
+#[inline(always)]
+fn follow(machine: &mut Machine, edge: &EdgeCode, position: usize) -> Result<Turn, NoMemory>
+    ensures { IfOk result (λ turn. Comes machine.old (λ fr rest sh. spec.walked fr rest sh position (Some edge.now)) turn machine.new) }
+{
+    let sight = sight_of(machine, position);
+    move_all(
+        machine.top.registers.as_mut_slice(),
+        &mut machine.moved,
+        edge.moves.as_slice(),
+    )?;
+    machine.top.block = edge.block;
+    machine.top.place = 0;
+    Ok(Turn::Sees(sight))
+}
+
+/// Walks the edge at a position.
+#[inline(always)]
+fn walk(machine: &mut Machine, edges: &[EdgeCode], position: usize) -> Result<Turn, NoMemory>
+    ensures { IfOk result (λ turn. Comes machine.old (λ fr rest sh. spec.walked fr rest sh position (slice_get edges.now position)) turn machine.new) }
+{
+    match edges.get(position) {
+        Some(edge) => follow(machine, edge, position),
+        None => Ok(Turn::Traps(TrapKind::Unreachable)),
+    }
+}
+
+/// The function that waits takes what is returned, at the type of its register.
+fn take_result(machine: &mut Machine, into: Option<Target>, value: Option<Value>)
+    ensures top { machine.new.top ≡ spec.resumed machine.old.top into value }
+    ensures rest { (machine.new.callers ≡ machine.old.callers) × (machine.new.memory ≡ machine.old.memory) × (machine.new.printed ≡ machine.old.printed) }
+{
+    if let Some(value) = value {
+        if let Some(target) = into {
+            assign_target(machine.top.registers.as_mut_slice(), target, value);
+        }
+    }
+}
+
+/// A returned value as a number.
+fn returned_number(value: Option<Value>) -> Option<u64>
+    ensures { result ≡ option_map values.as_number value }
+{
+    match value {
+        Some(value) => Some(as_number(value)),
+        None => None,
+    }
+}
+
+/// Returns from the function: its objects end, and the one that waits goes on.
+#[tactic(auto, using(crate::proofs::Stacks::reverse_push))]
+fn give_back(machine: &mut Machine, value: Option<Value>) -> Turn
+    ensures { Comes machine.old (λ fr rest sh. spec.returned fr rest sh value) result machine.new }
+{
+    let sight = sight_of(machine, 0);
+    match machine.callers.pop() {
+        Some(caller) => {
+            let ended = mem::replace(&mut machine.top, caller);
+            machine.memory.drop_from(ended.base);
+            take_result(machine, ended.into, value);
+            machine.spare = ended.registers;
+            Turn::Sees(sight)
+        }
+        None => Turn::Returns {
+            sight,
+            value: returned_number(value),
+        },
+    }
+}
+
+/// The value that a return gives.
+fn returned(registers: &[Value], value: Option<(Ty, Input)>) -> Option<Value>
+    ensures { result ≡ option_map (λ u. values.at_type u.0 (input_value registers.now u.1)) value }
+{
+    match value {
+        Some((ty, input)) => Some(at_type(ty, value_of(registers, input))),
+        None => None,
+    }
+}
+
+/// Walks the edge of a case of a switch, by its place among the cases, or that of the default.
+fn walk_case(
+    machine: &mut Machine,
+    edges: &[EdgeCode],
+    place: Option<usize>,
+) -> Result<Turn, NoMemory>
+    ensures { IfOk result (λ turn. Comes machine.old (λ fr rest sh. spec.exited fr rest sh edges.now (Takes (behind_default place))) turn machine.new) }
+{
+    match place {
+        Some(place) => {
+            if place < edges.len() {
+                walk(machine, edges, place + 1)
+            } else {
+                Ok(Turn::Traps(TrapKind::Unreachable))
+            }
+        }
+        None => walk(machine, edges, 0),
+    }
+}
+
+/// Leaves a block by a switch.
+fn switch(
+    machine: &mut Machine,
+    edges: &[EdgeCode],
+    ty: Ty,
+    value: Input,
+    cases: &Cases,
+) -> Result<Turn, NoMemory>
+    ensures { IfOk result (λ turn. Comes machine.old (λ fr rest sh. spec.exited fr rest sh edges.now (Takes (behind_default (position (λ n. n == values.number_at ty (input_value machine.old.top.registers value)) cases.now)))) turn machine.new) }
+{
+    let number = number_at(ty, value_of(machine.top.registers.as_slice(), value));
+    walk_case(machine, edges, cases.place(number))
+}
+
+/// Leaves a block.
+pub fn leave(machine: &mut Machine, edges: &[EdgeCode], exit: &Exit) -> Result<Turn, NoMemory>
+    ensures { IfOk result (λ turn. Comes machine.old (λ fr rest sh. spec.exited fr rest sh edges.now (spec.choice machine.old.top.registers exit.now)) turn machine.new) }
+{
+    let registers = machine.top.registers.as_slice();
+    match exit {
+        Exit::Go => walk(machine, edges, 0),
+        Exit::Choose { cond } => {
+            let cond = number_at(Ty::I1, value_of(registers, *cond));
+            walk(machine, edges, if cond == 0 { 1 } else { 0 })
+        }
+        Exit::Switch { ty, value, cases } => switch(machine, edges, *ty, *value, cases),
+        Exit::Return { value } => {
+            let value = returned(registers, *value);
+            Ok(give_back(machine, value))
+        }
+        Exit::Unreachable => Ok(Turn::Traps(TrapKind::Unreachable)),
+    }
+}
