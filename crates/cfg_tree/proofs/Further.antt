@@ -1,12 +1,12 @@
 -- The tree, one edge further.
-use Rattle.std.proofs.Common.{◌≡◌, ℕ, zero, suc, ◌+◌, ◌<◌, ◌≤◌, ◌==◌, Bool, true, false, cond, ◌⊎◌, inl, inr, None, List, [], ◌∷◌, ◌++◌, length, Some, slice_get, slice_index, set, replicate, refl, sym, ap, subst, ◌∙◌, arith, get_or-set_same, get_or-set_other, append_assoc, ltb-false, eqb-true, false-eqb}
+use Rattle.std.proofs.Common.{◌≡◌, ℕ, zero, suc, ◌+◌, ◌<◌, ◌≤◌, ◌==◌, Bool, true, false, cond, ◌⊎◌, inl, inr, None, List, [], ◌∷◌, ◌++◌, length, Some, slice_get, slice_index, set, replicate, refl, sym, ap, subst, ◌∙◌, arith, get_or-set_same, get_or-set_other, append_assoc, length-set, ltb-false, eqb-true, false-eqb}
 use Rattle.std.specs.Prelude.{Contains, IsPermutation, ◌&&◌, nat_lt}
 use Rattle.std.specs.BinaryHeap.{IsHeap, IsUpperBound, lt_by_cmp}
 use Rattle.std.specs.Ordering.{is_lt, nat_cmp, ordering_then}
 use Rattle.std.specs.declared.cmp.Ordering.TheVariants.{Less, Equal, Greater}
 use Rattle.cfg_tree.specs.Chains.{EndsAreBelow}
 use Rattle.std.proofs.lemmas.Bool.{cases_eq}
-use Rattle.std.proofs.lemmas.List.{append-nil, length-replicate}
+use Rattle.std.proofs.lemmas.List.{append-nil, length-replicate, length_push}
 use Rattle.std.proofs.lemmas.List.Elements.{All-contains, All-from_recursion}
 use Rattle.std.proofs.lemmas.List.Sorted.{Contains-permutation, IsPermutation-sym, length_permutation}
 use Rattle.std.proofs.lemmas.Option.{get_or_from_slice_get, slice_get-get_or}
@@ -18,10 +18,11 @@ use Rattle.cfg_tree.specs.Growing.{Growing, IsNewEnd, IsOffered}
 use Rattle.cfg_tree.specs.Grown.{IsBest, IsGrown}
 use Rattle.cfg_tree.specs.Incident.{numbers_at}
 use Rattle.cfg_tree.specs.Offers.{Key, OffersBoth, key, key_cmp}
+use Rattle.cfg_tree.specs.Walking.{unentered}
 use Rattle.cfg_tree.specs.declared.chains.End.TheVariants.{Head, Tail}
 use Rattle.cfg_tree.proofs.Chained.{among_number, number_among}
 use Rattle.cfg_tree.proofs.Offered.{contains_cases, contains_first, contains_later, nothing_there}
-use Rattle.cfg_tree.proofs.Stacks.{waiting, waiting_set}
+use Rattle.cfg_tree.proofs.Stacks.{less_unentered, some_unentered, waiting, waiting_set}
 
 -- what may still be offered, and what is
 abbrev pub offers_left : List Edge → List Bool → List Key → ℕ
@@ -104,6 +105,34 @@ pub growing_ends : (edges : List Edge) (weights : List ℕ) (marks : List Bool) 
 growing_ends edges weights marks heap order m empty =
     subst (λ (ks : List ℕ). IsGrown edges weights (0 ∷ []) ks) (append-nil order)
     (m.completes [] (λ k new j. nothing_there (key weights k) (subst (λ (xs : List Key). Contains xs (key weights k)) empty (m.candidates k new j))))
+
+-- where every node is reached, no edge joins one
+pub all_reached : (edges : List Edge) (weights : List ℕ) (n : ℕ) (marks : List Bool) (heap : List Key) (order : List ℕ) → EndsAreBelow Tail edges n → EndsAreBelow Head edges n → length marks ≡ n →
+    Growing edges weights marks heap order → length order + 1 + unentered marks ≡ length marks → length order + 1 ≡ length marks → IsGrown edges weights (0 ∷ []) order
+all_reached edges weights n marks heap order tails heads size m count all =
+    subst (λ (ks : List ℕ). IsGrown edges weights (0 ∷ []) ks) (append-nil order)
+    (m.completes [] (λ k new j. j.is_new (m.marked new (marked_all new (below k new j)))))
+  where
+    below : (k new : ℕ) → Joins edges m.reached k new → new < length marks
+    below k new j =
+        let within : new < n = elim j.links [ inl h ↦ subst (λ (u : ℕ). u < n) h.1 (heads k j.edge j.stands) | inr h ↦ subst (λ (u : ℕ). u < n) h.0 (tails k j.edge j.stands) ] in
+        omega (arith, within, size)
+
+    marked_all : (v : ℕ) → v < length marks → is_marked marks v ≡ true
+    marked_all v within = by (is_marked marks v) refl
+      where
+        by : (b : Bool) → is_marked marks v ≡ b → b ≡ true
+        by true e = refl
+        by false e = absurd (let some = some_unentered marks v within e in omega (arith, some, count, all))
+
+-- each edge that is taken leaves one node less to be reached
+pub one_reached : (marks : List Bool) (node : ℕ) (order longer : List ℕ) (number : ℕ) → node < length marks → is_marked marks node ≡ false → longer ≡ order ++ number ∷ [] →
+    length order + 1 + unentered marks ≡ length marks → length longer + 1 + unentered (set marks node true) ≡ length (set marks node true)
+one_reached marks node order longer number within bare put before =
+    let less = less_unentered marks node within bare in
+    let size = length-set marks node true in
+    let long : length longer ≡ length order + 1 = ap length put ∙ length_push order number in
+    omega (arith, less, size, long, before)
 
 -- ---- an edge was taken from the heap
 

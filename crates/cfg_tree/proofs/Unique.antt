@@ -236,6 +236,13 @@ module _ (n : ℕ) (some : 0 < n) where
       let all = all_unentered n in
       omega (arith, one, all)
 
+pub first_unreached : (n : ℕ) (marks : List Bool) → 0 < n → marks ≡ set (replicate n false) 0 true → 1 + unentered marks ≡ length marks
+first_unreached n marks some is = subst (λ (bs : List Bool). 1 + unentered bs ≡ length bs) (sym is)
+    (let one = less_unentered (replicate n false) 0 (let l = length-replicate n false in omega (arith, l)) (falses n some n 0) in
+    let all = all_unentered n in
+    let size = first_size n some in
+    omega (arith, one, all, size))
+
 pub order_grows : (edges : List Edge) (weights : List ℕ) (n : ℕ) → 0 < n → EndsAreBelow Tail edges n → EndsAreBelow Head edges n → IsGrown edges weights (0 ∷ []) (grown_order n edges weights (0 ∷ []))
 order_grows edges weights n some tails heads = grown_is edges weights n n (0 ∷ []) (set (replicate n false) 0 true) tails heads (first_size n some) (first_marked n some) (first_few n some)
 

@@ -1,11 +1,12 @@
 // The tree grows by the heaviest edge each time.
-ghost use Rattle.std.specs.Prelude.{◌≡◌, ◌<◌, [], ◌∷◌, length, IfOk, OnOk};
+ghost use Rattle.std.specs.Prelude.{◌≡◌, ◌<◌, ◌+◌, [], ◌∷◌, length, IfOk, OnOk};
 ghost use Rattle.std.specs.BinaryHeap.{heap_items};
 ghost use Rattle.cfg_tree.specs.Chains.{EndsAreBelow};
 ghost use Rattle.cfg_tree.specs.Growing.{Growing, IsNewEnd};
 ghost use Rattle.cfg_tree.specs.Grown.{IsGrown};
 ghost use Rattle.cfg_tree.specs.Offers.{AreIncident};
 ghost use Rattle.cfg_tree.specs.Tree.{tree_of};
+ghost use Rattle.cfg_tree.specs.Walking.{unentered};
 ghost use Rattle.cfg_tree.specs.Weights.{static_weights};
 ghost use Rattle.cfg_tree.specs.declared.chains.End.TheVariants as ends;
 ghost use Rattle.ir_tree.specs.Graphs.{nodes};
@@ -66,8 +67,8 @@ fn order_of(
     take_all(alloc, edges, weights, &incident, marks.as_mut_slice(), heap)
 }
 
-// Takes the best of the offered edges until none is left. One whose ends were both reached since it was
-// offered is passed over.
+// Takes the best of the offered edges until none is left, or every node is reached. One whose ends were both
+// reached since it was offered is passed over.
 fn take_all(
     alloc: Global,
     edges: &[Edge],
@@ -81,6 +82,7 @@ fn take_all(
     requires heads { EndsAreBelow ends.Head edges.now (length marks.old) }
     requires weights { length weights.now ≡ length edges.now }
     requires growing { Growing edges.now weights.now marks.old (heap_items heap) [] }
+    requires first { 1 + unentered marks.old ≡ length marks.old }
     ensures { IfOk result (λ order. IsGrown edges.now weights.now (0 ∷ []) order.items) }
 {
     let mut order = Vec::new(alloc);
@@ -91,6 +93,9 @@ fn take_all(
                 marks[node as usize] = true;
                 order.push(number)?;
                 offer_edges(edges, weights, incident, node, marks, &mut heap)?;
+                if order.len() + 1 == marks.len() {
+                    return Ok(order);
+                }
             }
         }
     }
