@@ -12,9 +12,8 @@ mod texts;
 
 use anyhow::{Context, Result, bail};
 use measure::lap;
-use prof_merge::{MergeInputs, merge, show};
+use prof_merge::{MergeInputs, merge, read_all, show};
 use prof_text::{MergeError, Profile, write};
-use prof_view::ProfileView;
 use std::alloc::Global;
 use std::env;
 use std::rt::Clock;
@@ -69,7 +68,7 @@ fn run<R: Threads + Sync + Clock + Print + Eprint + AllocGlobal>(
     let texts = profile_texts(alloc, load.profiles, load.records)?;
     for workers in numbers {
         let clock = Instant::now(rt)?;
-        let inputs = read_all(alloc, &texts)?;
+        let inputs = inputs_of(rt, alloc, &texts, *workers)?;
         lap(rt, load.measured, "read", &clock)?;
         let profile = merged(rt, alloc, &inputs, *workers)?;
         lap(rt, load.measured, "merged", &clock)?;
@@ -80,10 +79,18 @@ fn run<R: Threads + Sync + Clock + Print + Eprint + AllocGlobal>(
     Ok(())
 }
 
-fn read_all(alloc: Global, texts: &[Vec<u8>]) -> Result<MergeInputs<'_>> {
+fn inputs_of<'a, R: Threads + Sync>(
+    rt: &R,
+    alloc: Global,
+    texts: &'a [Vec<u8>],
+    workers: u32,
+) -> Result<MergeInputs<'a>> {
+    if workers == 0 {
+        bail!("1 to 64 workers");
+    }
     let mut inputs = MergeInputs::new(alloc);
-    for text in texts {
-        inputs.add(ProfileView::read(alloc, text)?)?;
+    for view in read_all(rt, alloc, texts, workers)? {
+        inputs.add(view?)?;
     }
     Ok(inputs)
 }

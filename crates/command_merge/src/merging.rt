@@ -70,7 +70,7 @@ fn merge_texts<R: Threads + Sync>(
     ensures refuses { IfErr result (RefusedBy (merge_judgement (map string_bytes names.now) (bytes_of_all texts.now))) }
     ensures files { IfOk result (λ p. length p.files.items ≡ 1) }
 {
-    let inputs = profiles(alloc, names, texts)?;
+    let inputs = profiles(rt, alloc, names, texts, workers)?;
     let sum = merged(rt, alloc, &inputs, workers)?;
     let mut files = Vec::new(alloc);
     files.push(write(alloc, &sum)?)?;

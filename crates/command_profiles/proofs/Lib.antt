@@ -1,3 +1,4 @@
 mod MergeLemmas
 mod EachLemmas
 mod FileLemmas
+mod AnswerLemmas

@@ -19,7 +19,7 @@ use std::thread::Threads;
 fn counters_read(alloc: Global, lines: CounterLines<'_>) -> Result<Vec<u64>, NoMemory>
     ensures { IfOk result (λ v. v.items ≡ lines.entry) }
 {
-    let mut counters = Vec::new(alloc);
+    let mut counters = Vec::with_capacity(alloc, lines.at_most())?;
     for counter in lines {
         counters.push(counter)?;
     }

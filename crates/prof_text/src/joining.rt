@@ -10,6 +10,7 @@ use pgo_base::NoMemory;
 
 // The first number that differs from `first` among numbers of which `other` is the first that does, followed by numbers
 // that begin with `next` and of which `next_other` is the first that differs from `next`.
+#[inline(always)]
 pub fn first_other(
     first: usize,
     other: Option<u32>,
@@ -30,6 +31,7 @@ pub fn first_other(
 }
 
 // Adds each number to its sum, which stops at the largest number.
+#[inline(always)]
 pub fn add_all(sums: &mut [u64], more: &[u64])
     requires { length sums.old ≡ length more.now }
     ensures { (i : ℕ) → slice_index sums.new i ≡ min (slice_index sums.old i + slice_index more.now i) most }

@@ -2,12 +2,11 @@
 use Rattle.std.proofs.Common.{◌≡◌, ℕ, ◌<◌, Bool, true, false, cond, List, [], ◌∷◌, ◌++◌, length, get_or, drop, map, filter, reverse, refl, sym, ap, ◌∙◌, arith}
 use Rattle.std.specs.Prelude.{◌==◌, not}
 use Rattle.std.specs.List.{onto_first, slice_split}
-use Rattle.std.proofs.lemmas.Bool.Decides.{nat_tests}
 use Rattle.std.proofs.lemmas.List.{reverse-append}
 use Rattle.prof_view.specs.Grammar.{any_line, next_is}
 use Rattle.prof_view.specs.Lines.{Lines, content, counts, is_blank, is_line_feed, skip_blanks, trim}
 use Rattle.prof_view.specs.Reads.{BeginsWith}
-use Rattle.prof_view.specs.Words.{all_digits, begins_colon, is_colon}
+use Rattle.prof_view.specs.Words.{begins_colon, is_colon}
 
 content_feed : (bs : List ℕ) → content (10 ∷ bs) ≡ content bs
 unfolding content trim

@@ -8,3 +8,4 @@ mod KindLemmas
 mod AgreeLemmas
 mod PlainLemmas
 mod FrontLemmas
+mod WithinLemmas

@@ -1,6 +1,9 @@
 -- A line of digits alone, up to a line feed, is a number of the text.
-use Rattle.std.proofs.Common.{◌≡◌, ℕ, suc, ◌+◌, ◌<◌, ◌≤◌, Bool, true, false, cond, List, [], ◌∷◌, ◌++◌, length, get_or, take, drop, map, filter, reverse, Option, Some, None, refl, sym, ap, ◌∙◌, arith}
-use Rattle.std.specs.List.{All, slice_split}
+use Rattle.std.proofs.Common.{◌≡◌, ℕ, suc, ◌+◌, ◌<◌, ◌≤◌, Bool, true, false, cond, ◌&&◌, List, [], ◌∷◌, ◌++◌, length, get_or, take, drop, map, filter, reverse, Option, Some, None, refl, sym, ap, ◌∙◌, arith}
+use Rattle.std.specs.List.{All, slice_split, starts_with}
+use Rattle.std.specs.Char.{is_digit}
+use Rattle.std.specs.Prelude.{codes, nat_eq}
+use Rattle.std.specs.Str.Parse.{digits_value}
 use Rattle.std.specs.Option.{option_and_then}
 use Rattle.std.proofs.lemmas.Bool.Decides.{nat_tests}
 use Rattle.std.proofs.lemmas.List.{length-take, reverse-reverse, take-append-drop}
@@ -9,10 +12,11 @@ use Rattle.std.proofs.lemmas.List.Sorted.{All-permutation, IsPermutation-reverse
 use Rattle.std.proofs.lemmas.List.Splits.{slice_split_at}
 use Rattle.std.proofs.Math.Seq.{drop-cons}
 use Rattle.ir_grammar.specs.Rules.{one, with_rest}
+use Rattle.ir_grammar.specs.Words.{when}
 use Rattle.prof_view.specs.Digits.{read_digits, with_digit}
-use Rattle.prof_view.specs.Grammar.{number_line}
+use Rattle.prof_view.specs.Grammar.{hash_line, number_line}
 use Rattle.prof_view.specs.Lines.{Lines, content, counts, is_blank, is_line_feed, skip_blanks, trim}
-use Rattle.prof_view.specs.Words.{numeral}
+use Rattle.prof_view.specs.Words.{all_digits, fits, hash_of, numeral}
 use Rattle.prof_view.proofs.Numerals.{numeral_some}
 
 pub record IsDigit (b : ℕ) : Type 0 where
@@ -80,3 +84,39 @@ plain_read text end value within here some all is =
     let long : 0 < length ds = omega (arith, length-take end text) in
     ap (λ (lines : Lines). (one (numeral 10)).read lines) (ap content (cut_at text end within here) ∙ content_digits ds rest long all)
     ∙ ap (λ (o : Option ℕ). with_rest o (content rest)) (numeral_some 10 ds (omega arith) long ∙ is)
+
+-- # A hash of digits alone
+
+and_false : (a : Bool) → (a && false) ≡ false
+and_false true = refl
+and_false false = refl
+
+not_kept : (a f : Bool) (x n : ℕ) → when ((a && false) && f) x ≡ Some n → true ≡ false
+not_kept true f x n e = cc
+not_kept false f x n e = cc
+
+no_digit : (c : ℕ) → nat_eq 120 c ≡ true → is_digit c 10 ≡ false
+no_digit c q = let is : 120 ≡ c = grind (arith, nat_tests) in ap (λ (k : ℕ). is_digit k 10) (sym is)
+
+digits_not_hex : (line : List ℕ) (n : ℕ) → numeral 10 line ≡ Some n → starts_with nat_eq line (codes "0x") ≡ false
+unfolding numeral
+digits_not_hex [] n e = refl
+digits_not_hex (b ∷ []) n e = and_false (nat_eq 48 b)
+digits_not_hex (b ∷ c ∷ bs) n e = test (nat_eq 120 c) refl
+  where
+    test : (t : Bool) → nat_eq 120 c ≡ t → (nat_eq 48 b && (t && true)) ≡ false
+    test false q = and_false (nat_eq 48 b)
+    test true q =
+        let bad : true ≡ false =
+        not_kept (is_digit b 10) (fits (digits_value 10 (b ∷ c ∷ bs))) (digits_value 10 (b ∷ c ∷ bs)) n
+        (ap (λ t. when ((is_digit b 10 && (t && all_digits 10 bs)) && fits (digits_value 10 (b ∷ c ∷ bs))) (digits_value 10 (b ∷ c ∷ bs))) (sym (no_digit c q)) ∙ e) in
+        cc
+
+pub plain_hash : (lines : Lines) (n : ℕ) (rest : Lines) → number_line.read lines ≡ Some (n, rest) → hash_line.read lines ≡ Some (n, rest)
+unfolding number_line hash_line hash_of
+plain_hash [] n rest e = cc
+plain_hash (line ∷ lines) n rest e = first (numeral 10 line) refl e
+  where
+    first : (o : Option ℕ) → numeral 10 line ≡ o → with_rest o lines ≡ Some (n, rest) → with_rest (cond (starts_with nat_eq line (codes "0x")) (numeral 16 (drop 2 line)) (numeral 10 line)) lines ≡ Some (n, rest)
+    first None is e = cc
+    first (Some m) is e = ap (λ t. with_rest (cond t (numeral 16 (drop 2 line)) (numeral 10 line)) lines) (digits_not_hex line m is) ∙ (ap (λ o. with_rest o lines) is ∙ e)

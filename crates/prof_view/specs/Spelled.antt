@@ -36,6 +36,12 @@ Spells text p = SpellsLines (content text) p
 abbrev pub text_most : ℕ
 text_most = 16777216
 
+-- a line is named by its number, counted from 1
+abbrev pub NamesLine : ViewError → Type 0
+NamesLine (Syntax line) = 0 < line
+NamesLine (TextLimit found) = Unit {0}
+NamesLine NoMemory = Unit {0}
+
 -- the refusal has its cause
 abbrev pub Refuses : List ℕ → ViewError → Type 0
 Refuses text (Syntax line) = (length text ≤ text_most) × ((p : ProfileInput) → Spells text p → ⊥)

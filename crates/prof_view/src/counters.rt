@@ -8,6 +8,7 @@ ghost use Rattle.prof_view.specs.Reads.{Reads, Skips};
 
 use crate::fault::Fault;
 use crate::fields::number_line;
+use crate::lines::skip_comments;
 use std::marker::Model;
 
 /// The counters of a record, in order. Contracts see the list of those that are left.
@@ -27,6 +28,14 @@ impl<'a> Model for CounterLines<'a> {
 }
 
 impl<'a> CounterLines<'a> {
+    /// At least as many as are left. Takes no memory.
+    #[tactic(auto, using(crate::proofs::TimesLemmas::few_values), unfolding(crate::specs::Views::counters_at))]
+    pub fn at_most(&self) -> usize
+        ensures { length self.now ≤ result }
+    {
+        self.left as usize
+    }
+
     // The same counters.
     pub(crate) fn again(&self) -> CounterLines<'a>
         ensures { result ≡ self.now }
@@ -45,6 +54,7 @@ impl<'a> Iterator for CounterLines<'a> {
 
     ghost remaining = { item_count (λ s. s) };
 
+    #[inline(always)]
     #[tactic(auto, using(crate::proofs::TimesLemmas::value_first, crate::proofs::TimesLemmas::value_none), unfolding(crate::specs::Views::counters_at))]
     fn next(&mut self) -> Option<u64> {
         if self.left == 0 {
@@ -82,9 +92,10 @@ pub(crate) fn counters(text: &[u8], count: u32) -> Result<(CounterLines<'_>, &[u
     ensures reads { Reads (λ c. c) result text.now (times number_line count).read }
     ensures few { IfOk result (λ p. length p.0 ≤ count) }
 {
-    let rest = skip_numbers(text, count)?;
+    let first = skip_comments(text);
+    let rest = skip_numbers(first, count)?;
     let counters = CounterLines {
-        rest: text,
+        rest: first,
         left: count,
     };
     Ok((counters, rest))

@@ -4,8 +4,8 @@ ghost use Rattle.prof_view.specs.Grammar.{header_line, name_line, hash_line, num
 ghost use Rattle.prof_view.specs.Reads.{Reads};
 
 use crate::fault::Fault;
-use crate::lines::next_line;
-use crate::numbers::{decimal, decimal_within, hash};
+use crate::lines::{next_line, skip_comments};
+use crate::numbers::{decimal, hash};
 use crate::plain::plain_number;
 use crate::words::{header_word, name, target};
 
@@ -31,8 +31,22 @@ pub(crate) fn name_line(text: &[u8]) -> Result<(&[u8], &[u8]), Fault>
     }
 }
 
-#[tactic(auto, unfolding(crate::specs::Grammar::hash_line))]
+/// The hash of a record.
+#[tactic(auto, using(crate::proofs::PlainLemmas::plain_hash))]
 pub(crate) fn hash_line(text: &[u8]) -> Result<(u64, &[u8]), Fault>
+    ensures { Reads (λ x. x) result text.now hash_line.read }
+{
+    let first = skip_comments(text);
+    match plain_number(first) {
+        Some(found) => Ok(found),
+        None => any_hash_line(first),
+    }
+}
+
+// A hash, in whatever form.
+#[inline(never)]
+#[tactic(auto, unfolding(crate::specs::Grammar::hash_line))]
+fn any_hash_line(text: &[u8]) -> Result<(u64, &[u8]), Fault>
     ensures { Reads (λ x. x) result text.now hash_line.read }
 {
     let (line, rest) = next_line(text)?;
@@ -43,6 +57,7 @@ pub(crate) fn hash_line(text: &[u8]) -> Result<(u64, &[u8]), Fault>
 }
 
 /// A number.
+#[inline(always)]
 pub(crate) fn number_line(text: &[u8]) -> Result<(u64, &[u8]), Fault>
     ensures { Reads (λ x. x) result text.now number_line.read }
 {
@@ -53,6 +68,7 @@ pub(crate) fn number_line(text: &[u8]) -> Result<(u64, &[u8]), Fault>
 }
 
 // A number, in whatever form.
+#[inline(never)]
 #[tactic(auto, unfolding(crate::specs::Grammar::number_line))]
 fn any_number_line(text: &[u8]) -> Result<(u64, &[u8]), Fault>
     ensures { Reads (λ x. x) result text.now number_line.read }
@@ -65,15 +81,16 @@ fn any_number_line(text: &[u8]) -> Result<(u64, &[u8]), Fault>
 }
 
 /// A number from `least` to `most`.
-#[tactic(auto, unfolding(crate::specs::Grammar::number_line_within))]
+#[tactic(auto, using(crate::proofs::WithinLemmas::within_none, crate::proofs::WithinLemmas::within_some, crate::proofs::WithinLemmas::within_outside))]
 pub(crate) fn number_line_within(text: &[u8], least: u64, most: u64) -> Result<(u64, &[u8]), Fault>
     ensures reads { Reads (λ x. x) result text.now (number_line_within least most).read }
     ensures within { IfOk result (λ p. p.0 ≤ most) }
 {
-    let (line, rest) = next_line(text)?;
-    match decimal_within(line, least, most) {
-        Some(number) => Ok((number, rest)),
-        None => Err(Fault { left: rest.len() }),
+    let (number, rest) = number_line(skip_comments(text))?;
+    if least <= number && number <= most {
+        Ok((number, rest))
+    } else {
+        Err(Fault { left: rest.len() })
     }
 }
 

@@ -52,6 +52,7 @@ fn counts(line: &[u8]) -> bool
 }
 
 /// What stands behind the first n bytes.
+#[inline(always)]
 pub(crate) fn behind(text: &[u8], n: usize) -> &[u8]
     requires { n ≤ length text.now }
     ensures { result.now ≡ drop n text.now }
@@ -96,6 +97,25 @@ pub(crate) fn next_line(text: &[u8]) -> Result<(&[u8], &[u8]), Fault>
         Some(found) => Ok(found),
         None => Err(Fault { left: 0 }),
     }
+}
+
+/// The text behind the lines at its front that begin with `#`, which do not count.
+#[inline(always)]
+pub(crate) fn skip_comments(text: &[u8]) -> &[u8]
+    ensures { content result.now ≡ content text.now }
+{
+    let mut rest = text;
+    while let [first, ..] = rest {
+        if *first != b'#' {
+            return rest;
+        }
+        let (line, after) = split_line(rest);
+        if counts(trim(line)) {
+            return rest;
+        }
+        rest = after;
+    }
+    rest
 }
 
 /// The text behind the line feeds at its front, which begin no line that counts.

@@ -1,8 +1,9 @@
 // Numbers as digits write them.
-ghost use Rattle.std.specs.Prelude.{◌≡◌, ◌≤◌, IfSome};
-ghost use Rattle.prof_view.specs.Words.{numeral, number_within, hash_of, digit_of};
+ghost use Rattle.std.specs.Prelude.{◌≡◌};
+ghost use Rattle.prof_view.specs.Words.{numeral, hash_of, digit_of};
 ghost use Rattle.prof_view.specs.Digits.{with_digit, read_digits};
 
+#[inline(always)]
 fn decimal_digit(byte: u8) -> Option<u64>
     ensures { result ≡ digit_of 10 byte }
 {
@@ -25,6 +26,7 @@ fn hexadecimal_digit(byte: u8) -> Option<u64>
 }
 
 /// The value with one more decimal digit.
+#[inline(always)]
 pub(crate) fn with_decimal_digit(value: u64, byte: u8) -> Option<u64>
     ensures { result ≡ with_digit 10 value byte }
 {
@@ -80,20 +82,6 @@ fn hexadecimal(digits: &[u8]) -> Option<u64>
         None
     } else {
         read_hexadecimal(digits)
-    }
-}
-
-/// The decimal number that the line writes, where it is from `least` to `most`.
-#[tactic(auto, unfolding(crate::specs::Words::number_within))]
-pub(crate) fn decimal_within(line: &[u8], least: u64, most: u64) -> Option<u64>
-    ensures value { result ≡ number_within least most line.now }
-    ensures within { IfSome result (λ n. n ≤ most) }
-{
-    let number = decimal(line)?;
-    if least <= number && number <= most {
-        Some(number)
-    } else {
-        None
     }
 }
 

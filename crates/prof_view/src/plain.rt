@@ -8,6 +8,7 @@ use crate::numbers::with_decimal_digit;
 
 /// The number of a line that has digits alone, and what stands behind its line feed. Another line may be a number too,
 /// as one with blanks: of such a line, and of the last one, this says nothing.
+#[inline(always)]
 pub(crate) fn plain_number(text: &[u8]) -> Option<(u64, &[u8])>
     ensures { IfSome result (λ p. number_line.read (content text.now) ≡ Some (p.0, content p.1.now)) }
 {

@@ -4,7 +4,7 @@ ghost use Rattle.prof_view.specs.Lines.{content};
 ghost use Rattle.prof_view.specs.Words.{begins_colon};
 ghost use Rattle.prof_view.specs.Grammar.{next_is, any_line, mode_ahead, records_ahead, profile_ahead};
 ghost use Rattle.prof_view.specs.Reads.{Reads, ReadsAll, items_of};
-ghost use Rattle.prof_view.specs.Spelled.{Spells, Refuses, text_most};
+ghost use Rattle.prof_view.specs.Spelled.{Spells, Refuses, NamesLine, text_most};
 
 use crate::error::ViewError;
 use crate::fault::{Fault, Stop};
@@ -39,11 +39,12 @@ impl<'a> Model for ProfileView<'a> {
 impl<'a> ProfileView<'a> {
     /// Reads a profile text (LLVM's text profiles, as `llvm-profdata merge --text` writes them). The
     /// result is the one profile that the text spells. `TextLimit` comes exactly where the text is
-    /// longer than 16,777,216 bytes, and else `Syntax` exactly where it spells no profile.
+    /// longer than 16,777,216 bytes, and else `Syntax` exactly where it spells no profile, with the line counted from 1.
     pub fn read(alloc: Global, text: &'a [u8]) -> Result<ProfileView<'a>, ViewError>
         ensures spelled { IfOk result (Spells text.now) }
         ensures within { IfOk result (λ _. length text.now ≤ text_most) }
         ensures refused { IfErr result (Refuses text.now) }
+        ensures line { IfErr result NamesLine }
     {
         if text.len() > TEXT_MOST {
             return Err(ViewError::TextLimit { length: text.len() });
@@ -90,6 +91,7 @@ impl<'a> ProfileView<'a> {
 // The number of the line, counted from 1, behind which so many bytes stand.
 fn line_at(text: &[u8], left: usize) -> u32
     requires { length text.now ≤ text_most }
+    ensures { 0 < result }
 {
     let end = text.len().saturating_sub(left).saturating_sub(1);
     let line_feeds = memchr_iter(b'\n', &text[..end]).count();

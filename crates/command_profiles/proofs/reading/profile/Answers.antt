@@ -1,7 +1,8 @@
+use Rattle.prof_merge.specs.Reading.{IsReading}
 use Rattle.command_profiles.proofs.reading.profile.Goals as goal
 
-pub returns-in-Ok-clause-found : goal.returns-in-Ok-clause-found
-returns-in-Ok-clause-found c = record {
-  is = record { fits = c.in-Ok.ensures.within; spelled = c.in-Ok.ensures.spelled };
-  only = λ q other. c.one_profile.ensures c.args.text.now q c.in-Ok.view other c.in-Ok.ensures.spelled;
-}
+pub returns-clause-found : goal.returns-clause-found
+returns-clause-found c = c.judged.ensures.found c.args.text.now (record { spelled = c.read.ensures.spelled; within = c.read.ensures.within; refused = c.read.ensures.refused })
+
+pub returns-clause-refuses : goal.returns-clause-refuses
+returns-clause-refuses c = c.judged.ensures.refuses c.args.text.now (record { spelled = c.read.ensures.spelled; within = c.read.ensures.within; refused = c.read.ensures.refused })
