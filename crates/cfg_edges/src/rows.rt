@@ -22,7 +22,7 @@ pub(crate) fn rows_of(alloc: Global, blocks: &[Block]) -> Result<Rows, NoMemory>
 fn index_of(alloc: Global, blocks: &[Block]) -> Result<Index, NoMemory>
     ensures { IfOk result (λ index. Indexes index (labels blocks.now)) }
 {
-    let mut index = Index::new(alloc);
+    let mut index = Index::with_room(alloc, blocks.len())?;
     for (b, block) in blocks.iter().enumerate() {
         index.add(alloc, block.label.bytes(), b)?;
     }

@@ -58,7 +58,7 @@ fn judge(alloc: Global, module: &Module) -> Result<Index, CheckError>
 fn names_of(alloc: Global, functions: &[Function]) -> Result<Index, NoMemory>
     ensures { IfOk result (λ names. Indexes names (map (λ f. f.name) functions.now)) }
 {
-    let mut names = Index::new(alloc);
+    let mut names = Index::with_room(alloc, functions.len())?;
     for (k, f) in functions.iter().enumerate() {
         names.add(alloc, f.name.bytes(), k)?;
     }

@@ -1,5 +1,5 @@
 -- The first place of a name in a list that grows by one name at its end.
-use Rattle.std.proofs.Common.{◌≡◌, ℕ, Bool, true, false, cond, List, [], ◌∷◌, ◌++◌, length, Option, Some, is_some, position, refl, sym, subst, ◌∙◌, arith}
+use Rattle.std.proofs.Common.{◌≡◌, ℕ, Bool, true, false, cond, List, [], ◌∷◌, ◌++◌, length, Option, None, Some, is_some, is_none, position, refl, sym, subst, ◌∙◌, arith}
 use Rattle.std.proofs.lemmas.Grind.{common_steps}
 use Rattle.std.proofs.lemmas.List.{length_push}
 use Rattle.std.proofs.lemmas.List.Folds.{position_or_len_push}
@@ -37,3 +37,11 @@ module _ (names : List (List ℕ)) (n q : List ℕ) where
 -- what an index finds once a key, a copy of the new name n, has its place
 pub index_grows : (names : List (List ℕ)) (n k q : List ℕ) (place : ℕ) (before after : Option ℕ) → k ≡ n → place ≡ length names → is_some (position (same n) names) ≡ false → before ≡ position (same q) names → after ≡ cond (same k q) (Some place) before → after ≡ position (same q) (names ++ n ∷ [])
 index_grows names n k q place before after copy at absent made put = let grown = position-new names n q absent in put ∙ (λ i. cond (same (copy i) q) (Some (at i)) (made i)) ∙ sym grown
+
+pub none_not : {X : Type 0} (o : Option X) → true ≡ is_none o → is_some o ≡ false
+none_not None e = refl
+none_not (Some x) e = cc
+
+pub not_none : {X : Type 0} (o : Option X) → false ≡ is_none o → is_some o ≡ true
+not_none None e = cc
+not_none (Some x) e = refl

@@ -4,6 +4,7 @@ ghost use Rattle.spec_lists.specs.Each.{each};
 ghost use Rattle.ir_tree.specs.FunctionNames.{indexed, IndexesEntries, IsIndexOf, IsFresh, candidate};
 ghost use Rattle.ir_tree.specs.Locals.{Entry, param, block_locals, result_at, local};
 
+use crate::firsts::put_first;
 use crate::locals::{Local, LocalKind};
 use crate::name::Name;
 use crate::types::{Block, Function, Instr, Ty};
@@ -66,10 +67,7 @@ impl FunctionIndex {
     fn add(&mut self, alloc: Global, name: &Name, local: Local) -> Result<(), NoMemory>
         ensures { (es : List Entry) → IndexesEntries self.old es → OnOk result (IndexesEntries self.new (es ++ (name.now, local) ∷ [])) }
     {
-        if self.find(name.bytes()).is_some() {
-            return Ok(());
-        }
-        self.locals.insert(name.copy(alloc)?, local)?;
+        put_first(&mut self.locals, name.copy(alloc)?, local)?;
         Ok(())
     }
 

@@ -6,6 +6,7 @@ ghost use Rattle.std.specs.Hash as fed;
 ghost use Rattle.std.proofs.Common.{ap};
 ghost use Rattle.ir_tree.specs.Names.{first_place, Indexes};
 
+use crate::firsts::put_first;
 use crate::name::Name;
 use indexmap::{Equivalent, IndexMap};
 use pgo_base::NoMemory;
@@ -40,11 +41,20 @@ impl Index {
         }
     }
 
+    /// The index of no names, with room for so many.
+    pub fn with_room(alloc: Global, count: usize) -> Result<Index, NoMemory>
+        ensures { IfOk result (λ index. Indexes index []) }
+    {
+        Ok(Index {
+            places: IndexMap::with_capacity(alloc, count)?,
+        })
+    }
+
     /// The index of these names. A name that stands more than once has its first place.
     pub fn of(alloc: Global, names: &[Name]) -> Result<Index, NoMemory>
         ensures { IfOk result (λ index. Indexes index names.now) }
     {
-        let mut index = Index::new(alloc);
+        let mut index = Index::with_room(alloc, names.len())?;
         for (i, name) in names.iter().enumerate() {
             index.add(alloc, name.bytes(), i)?;
         }
@@ -58,11 +68,8 @@ impl Index {
         ensures fresh { IfOk result (λ fresh. fresh ≡ not (is_some (first_place self.old name.now))) }
         ensures refused { OnErr result ((q : List ℕ) → first_place self.new q ≡ first_place self.old q) }
     {
-        if self.find(name).is_some() {
-            return Ok(false);
-        }
-        self.places.insert(Name::of(alloc, name)?, place)?;
-        Ok(true)
+        let fresh = put_first(&mut self.places, Name::of(alloc, name)?, place)?;
+        Ok(fresh)
     }
 
     /// The first place of a name, None exactly where the name is absent. Takes no memory.

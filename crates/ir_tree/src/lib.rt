@@ -4,6 +4,7 @@
 mod compared;
 mod copies;
 mod edge;
+mod firsts;
 mod function_index;
 mod functions;
 mod index;
