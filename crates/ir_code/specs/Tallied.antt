@@ -1,5 +1,5 @@
 -- The units that are found among the first global variables of a module.
-use Rattle.std.specs.Prelude.{◌≡◌, ℕ, List, map, filter, sum_by}
+use Rattle.std.specs.Prelude.{◌≡◌, List, map, filter, sum_by}
 use Rattle.ir_tree.specs.Names.{Indexes}
 use Rattle.ir_tree.specs.declared.types.Global1.{Global1}
 use Rattle.ir_code.specs.Units.{datum, is_data, units_from}

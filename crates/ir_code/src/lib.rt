@@ -28,6 +28,3 @@ pub use units::{counter_total, module_symbols, site_total};
 pub use values::{
     as_number, at_type, base_of, bits_of, bytes_of, is_pointer, number_at, offset_of,
 };
-
-#[cfg(test)]
-mod tests;

@@ -185,14 +185,14 @@ module _ {C : Type 0} (f g : List Shown → List C) (R : List Shown → List Sho
   SeesText = (text : List ℕ) → f (map Printed text) ≡ g (map Printed text)
 
   module _ (first : IsView f) (text_seen : SeesText) (c : ℕ) (some : 1 ≤ c) (fr ft : Frame) (rest rest' : List Frame) (shared : Shared) (front : List Shown) (traps : (kind : TrapKind) → R [] (front ++ []) (Traps kind)) (through : Bool) (into into' : Option (List ℕ × Ty))
-      (waits : Resumes into into' (waiting fr) (waiting ft)) (below : Below fr.into ft.into rest rest') (before : (k : ℕ) → f (targeted through fr k) ≡ g front ++ g (targeted through ft k)) where
+      (waits : Resumes into into' (waiting fr) (waiting ft)) (below : Below fr.into ft.into rest rest') (at : Option ℕ) (before : (k : ℕ) → at ≡ Some k → f (targeted through fr k) ≡ g front ++ g (targeted through ft k)) where
     trap_then : (kind : TrapKind) → Both c (fails kind) front (fails kind)
     trap_then kind = more_both 0 c (fails kind) front (fails kind) (omega arith) (trap_both front kind (traps kind))
 
-    module _ (k : ℕ) where
+    module _ (k : ℕ) (is : at ≡ Some k) where
       both_seen : (o p : List Shown) (want : List C) → f o ≡ g p ++ want → f (targeted through fr k ++ o) ≡ g front ++ (g (targeted through ft k ++ p) ++ want)
       both_seen o p want e =
-          first.more (targeted through fr k) o ∙ ap₂ (λ (a b : List C). a ++ b) (before k) e
+          first.more (targeted through fr k) o ∙ ap₂ (λ (a b : List C). a ++ b) (before k is) e
           ∙ append_assoc (g front) (g (targeted through ft k)) (g p ++ want)
           ∙ ap (λ l. g front ++ l) (sym (append_assoc (g (targeted through ft k)) (g p) want) ∙ ap (λ l. l ++ want) (sym (second.more (targeted through ft k) p)))
 
@@ -213,7 +213,7 @@ module _ {C : Type 0} (f g : List Shown → List C) (R : List Shown → List Sho
       nothing_seen : Both c (goes_to (waiting fr ∷ rest) shared (targeted through fr k)) front (goes_to (waiting ft ∷ rest') shared (targeted through ft k))
       nothing_seen =
           arrive_both c [] (waiting fr) (waiting ft) rest rest' shared shared front (targeted through fr k) (targeted through ft k) refl
-          (before k ∙ ap (λ l. g front ++ l) (sym (append-nil (g (targeted through ft k))))) (sooner 1 c [] (waiting fr) (waiting ft) some (waits None)) below
+          (before k is ∙ ap (λ l. g front ++ l) (sym (append-nil (g (targeted through ft k))))) (sooner 1 c [] (waiting fr) (waiting ft) some (waits None)) below
 
       declared_if : (values : List (Ty × Value)) (d e : Bool) → Both c (cond d (prints_first fr rest shared (targeted through fr k) values) (cond e (goes_to (waiting fr ∷ rest) shared (targeted through fr k)) (fails trap.External))) front
           (cond d (prints_first ft rest' shared (targeted through ft k) values) (cond e (goes_to (waiting ft ∷ rest') shared (targeted through ft k)) (fails trap.External)))
@@ -264,10 +264,20 @@ module _ {C : Type 0} (f g : List Shown → List C) (R : List Shown → List Sho
       called_both r values (Some h) None twin = absurd twin
       called_both r values (Some h) (Some h') twin = called_if h h' values r twin (fits r values h) (fits r values h') (fits_same h h' values r twin)
 
-    -- a call at an address, of functions that are twins
-    pub call_both : ((k : ℕ) → Twin c k (function_at m k) (function_at n k)) → (r : Ret) (values : List (Ty × Value)) (at : Option ℕ) → Both c (call_at m fr rest shared through into r values at) front (call_at n ft rest' shared through into' r values at)
-    call_both twins r values None = trap_then trap.Callee
-    call_both twins r values (Some k) = called_both k r values (function_at m k) (function_at n k) (twins k)
+    -- a call of the function that was found, of functions that are twins
+    pub call_found : ((k : ℕ) → Twin c k (function_at m k) (function_at n k)) → (r : Ret) (values : List (Ty × Value)) → Both c (call_at m fr rest shared through into r values at) front (call_at n ft rest' shared through into' r values at)
+    call_found twins r values = by at refl
+      where
+        by : (o : Option ℕ) → at ≡ o → Both c (call_at m fr rest shared through into r values o) front (call_at n ft rest' shared through into' r values o)
+        by None e = trap_then trap.Callee
+        by (Some k) e = called_both k e r values (function_at m k) (function_at n k) (twins k)
+
+  -- the same, where what is looked at of the call agrees for every function
+  pub call_both : (first : IsView f) (text_seen : SeesText) (c : ℕ) (some : 1 ≤ c) (fr ft : Frame) (rest rest' : List Frame) (shared : Shared) (front : List Shown) (traps : (kind : TrapKind) → R [] (front ++ []) (Traps kind)) (through : Bool) (into into' : Option (List ℕ × Ty)) →
+      Resumes into into' (waiting fr) (waiting ft) → Below fr.into ft.into rest rest' → ((k : ℕ) → f (targeted through fr k) ≡ g front ++ g (targeted through ft k)) →
+      ((k : ℕ) → Twin c k (function_at m k) (function_at n k)) → (r : Ret) (values : List (Ty × Value)) (at : Option ℕ) → Both c (call_at m fr rest shared through into r values at) front (call_at n ft rest' shared through into' r values at)
+  call_both first text_seen c some fr ft rest rest' shared front traps through into into' waits below before twins r values at =
+      call_found first text_seen c some fr ft rest rest' shared front traps through into into' waits below at (λ k is. before k) twins r values
 
   -- ---- starts
 

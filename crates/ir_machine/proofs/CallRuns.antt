@@ -1,6 +1,6 @@
 -- The run of the code of a module, begun as a call begins, is what the code sees of the call's run.
-use Rattle.std.proofs.Common.{◌≡◌, ℕ, ◌<◌, List, [], ◌∷◌, ◌++◌, length, Option, Some, None, refl, sym, ◌∙◌, ap, subst, arith, get_or}
-use Rattle.std.specs.Prelude.{slice_get, Result, Ok, Err, OnErr}
+use Rattle.std.proofs.Common.{◌≡◌, ℕ, ◌<◌, List, [], ◌∷◌, length, Option, Some, None, refl, sym, ◌∙◌, ap, subst, arith, get_or}
+use Rattle.std.specs.Prelude.{slice_get}
 use Rattle.std.specs.Option.{option_map}
 use Rattle.std.proofs.lemmas.List.{length-map}
 use Rattle.std.proofs.lemmas.Option.{slice_get-map, slice_get_read, slice_get_within}
@@ -8,12 +8,10 @@ use Rattle.ir_tree.specs.Functions.{function_at, numbered}
 use Rattle.ir_tree.specs.declared.types.Function.{Function}
 use Rattle.ir_tree.specs.declared.types.Module.{Module}
 use Rattle.ir_model.specs.Initial.{initial_memory}
-use Rattle.ir_model.specs.declared.probe.Event.{Event}
 use Rattle.ir_model.specs.declared.result.Call.{Call}
-use Rattle.spec_machines.specs.Machine.{Ran, shown_of, go_on, run}
+use Rattle.spec_machines.specs.Machine.{Ran, shown_of, run}
 use Rattle.ir_model.specs.State.{Shown, Entered, Stop}
-use Rattle.ir_model.specs.Step.{step}
-use Rattle.ir_model.specs.Run.{begun, run_of, result_of, FitsFunction, IsValidCall}
+use Rattle.ir_model.specs.Run.{run_of, result_of, FitsFunction, IsValidCall}
 use Rattle.ir_code.specs.Images.{memory_of, module_images}
 use Rattle.ir_code.specs.Resolved.{function_code, module_code}
 use Rattle.ir_code.specs.Symbols.{symbol_input}

@@ -1,5 +1,5 @@
 -- What a machine does where a part of it did something.
-use Rattle.std.proofs.Common.{◌≡◌, ℕ, zero, suc, ◌+◌, ◌≤◌, arith, List, [], ◌∷◌, ◌++◌, length, map, Option, None, refl, sym, ◌∙◌, ap, subst}
+use Rattle.std.proofs.Common.{◌≡◌, ℕ, zero, suc, ◌+◌, ◌≤◌, arith, List, [], ◌∷◌, length, map, Option, None, refl, sym, ◌∙◌, ap, subst}
 use Rattle.std.proofs.lemmas.List.{append-nil}
 use Rattle.std.specs.Prelude.{reverse, slice_get, Result, Ok, Err, IfOk, OnErr}
 use Rattle.ir_tree.specs.declared.types.Ty.{Ty}
@@ -15,7 +15,7 @@ use Rattle.ir_machine.specs.declared.state.Machine.{Machine}
 use Rattle.ir_machine.specs.declared.state.Sight.TheVariants as sight
 use Rattle.ir_machine.specs.declared.state.Turn.{Turn}
 use Rattle.ir_machine.specs.declared.state.Turn.TheVariants as turn
-use Rattle.ir_machine.specs.Steps.{CodeDeed, CodeState, Comes, Does, DoesAlone, enters, exited, first_frame, input_value, state_of, valued, waiting_of, walked}
+use Rattle.ir_machine.specs.Steps.{CodeDeed, CodeState, Comes, Does, DoesAlone, enters, exited, first_frame, input_value, valued, waiting_of, walked}
 
 pub on_err : {T E : Type 0} (X : Type 0) (r : Result T E) → X → OnErr r X
 on_err X (Ok t) x = tt

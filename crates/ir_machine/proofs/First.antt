@@ -3,8 +3,7 @@ use Rattle.std.proofs.Common.{◌≡◌, ℕ, suc, ◌+◌, List, [], ◌∷◌,
 use Rattle.std.proofs.lemmas.List.{append-nil}
 use Rattle.ir_tree.specs.declared.types.Global1.{Global1}
 use Rattle.ir_tree.specs.declared.types.Module.{Module}
-use Rattle.ir_memory.specs.Memory.{MemoryState}
-use Rattle.ir_memory.specs.declared.allocation.Allocation.{Allocation}
+use Rattle.ir_memory.specs.Memory.{Allocation, MemoryState}
 use Rattle.ir_memory.specs.declared.value.Value.{Value}
 use Rattle.ir_model.specs.Initial.{global_object, global_objects, initial_memory}
 use Rattle.ir_model.specs.Values.{objects, symbol_value}

@@ -1,24 +1,21 @@
 -- What a machine does where it gives a value to a register.
-use Rattle.std.proofs.Common.{◌≡◌, ℕ, suc, ◌+◌, ◌*◌, ◌%◌, ◌<◌, ◌≤◌, Bool, true, false, cond, ltb, leb, List, [], ◌∷◌, length, drop, get_or, Option, Some, refl, sym, ◌∙◌, ap, subst, arith, pos}
+use Rattle.std.proofs.Common.{◌≡◌, ℕ, suc, ◌+◌, ◌*◌, ◌%◌, ◌<◌, Bool, true, false, cond, List, [], ◌∷◌, length, drop, get_or, Some, refl, sym, ◌∙◌, ap, subst, arith, pos}
 use Rattle.std.proofs.Math.Seq.{drop-cons}
-use Rattle.std.specs.Prelude.{nat_le, max, ◌+ℤ◌, Result, Ok}
+use Rattle.std.specs.Prelude.{nat_le, max, ◌+ℤ◌}
 use Rattle.std.proofs.lemmas.Bool.Decides.{nat_tests}
 use mir.Val.{bool_byte}
-use Rattle.ir_tree.specs.declared.types.Ty.{Ty}
 use Rattle.ir_value.specs.Integer.{signed_of, wrapped}
 use Rattle.ir_memory.specs.Memory.{MemoryState, live_cells, made}
-use Rattle.ir_memory.specs.declared.error.MemError.{MemError}
 use Rattle.ir_memory.specs.declared.value.Base.TheVariants.{Object}
 use Rattle.ir_memory.specs.declared.value.Value.{Value}
 use Rattle.ir_memory.specs.declared.value.Value.TheVariants.{Pointer}
 use Rattle.ir_model.specs.Deed.{cells_most}
-use Rattle.ir_model.specs.Values.{at_type, bits_of, number_at}
+use Rattle.ir_model.specs.Values.{bits_of, number_at}
 use Rattle.ir_model.specs.declared.result.TrapKind.TheVariants as trap
-use Rattle.ir_code.specs.declared.code.FunctionCode.{FunctionCode}
 use Rattle.ir_code.specs.declared.code.Scaled.{Scaled}
 use Rattle.ir_machine.specs.declared.state.Machine.{Machine}
 use Rattle.ir_machine.specs.declared.state.Turn.{Turn}
-use Rattle.ir_machine.specs.Steps.{CodeDeed, Gives, Fails, Does, DoesAlone, allocated, distance, input_value, read_as}
+use Rattle.ir_machine.specs.Steps.{CodeDeed, Gives, Fails, Does, DoesAlone, allocated, distance, input_value}
 use Rattle.ir_machine.proofs.Wrapping.{rest_step}
 
 -- a test as a number

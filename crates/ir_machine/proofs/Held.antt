@@ -1,13 +1,13 @@
 -- Registers by number hold what the registers by name hold.
 use Rattle.std.proofs.Common.{◌≡◌, ◌≢◌, ℕ, zero, suc, ◌+◌, ◌-◌, ◌<◌, Bool, true, false, cond, List, [], ◌∷◌, ◌++◌, length, map, take, Option, Some, None, refl, sym, ◌∙◌, ap, subst, arith, get_or-set_same, get_or-set_other}
 use Rattle.std.proofs.Math.ListN.{length-replicate, length-set}
-use Rattle.std.specs.Prelude.{slice_get, slice_set, unwrap_or, replicate}
+use Rattle.std.specs.Prelude.{slice_set, replicate}
 use Rattle.std.proofs.lemmas.List.{take_all}
 use Rattle.std.proofs.lemmas.Option.{unwrap_or-slice_get}
 use Rattle.std.specs.List.{cons_option}
 use Rattle.std.specs.Option.{option_map}
 use Rattle.ir_tree.specs.Names.{same}
-use Rattle.ir_tree.specs.Operands.{Entries, result_name, result_of}
+use Rattle.ir_tree.specs.Operands.{Entries, result_of}
 use Rattle.ir_tree.specs.Phis.{entries_of}
 use Rattle.ir_tree.specs.declared.types.Instr.{Instr}
 use Rattle.ir_tree.specs.declared.types.Module.{Module}
@@ -26,9 +26,8 @@ use Rattle.ir_tree.specs.Functions.{function_number}
 use Rattle.ir_code.specs.declared.code.Move.{Move}
 use Rattle.ir_code.specs.declared.code.Input.{Input}
 use Rattle.ir_code.specs.declared.code.Span.{Span}
-use Rattle.ir_code.specs.declared.code.Target.{Target}
 use Rattle.ir_code.specs.Symbols.{object_input, numbered_input, symbol_input}
-use Rattle.ir_code.specs.Resolved.{input_of, target_of, value_on, taken_input, phi_input, move_of, moves_from}
+use Rattle.ir_code.specs.Resolved.{input_of, target_of, value_on, taken_input, phi_input, moves_from}
 use Rattle.ir_machine.specs.Steps.{register_value, input_value, with_value, with_target, put_all, arguments, filled}
 use Rattle.ir_machine.proofs.Places.{place_of, same_true, same_self, Among, AllAmong, place_apart}
 

@@ -1,7 +1,7 @@
 -- Resolved code goes in step with its module: a step of the one is matched by a step of the other, of which the same is seen,
 -- and which comes to a matching state or to the same end.
-use Rattle.std.proofs.Common.{◌≡◌, ℕ, zero, suc, ◌+◌, ◌==◌, ◌<◌, Bool, true, false, cond, List, [], ◌∷◌, ◌++◌, length, map, drop, Option, Some, None, refl, sym, ◌∙◌, ap, subst, arith, length-append}
-use Rattle.std.specs.Prelude.{slice_get, slice_set, nat_le, nat_lt, max, Result, Ok, Err, option_and_then, ◌&&◌, ◌||◌, if◌then◌else◌}
+use Rattle.std.proofs.Common.{◌≡◌, ℕ, zero, suc, ◌+◌, Bool, true, false, cond, List, [], ◌∷◌, ◌++◌, length, map, drop, Option, Some, None, refl, sym, ◌∙◌, ap, subst, arith, length-append}
+use Rattle.std.specs.Prelude.{slice_get, nat_le, nat_lt, max, Result, Ok, Err, option_and_then, ◌&&◌}
 use Rattle.std.specs.Option.{option_map}
 use Rattle.std.specs.List.{flat_map}
 use Rattle.std.proofs.lemmas.List.{length-map}
@@ -20,14 +20,13 @@ use Rattle.ir_tree.specs.declared.types.Ret.TheVariants as ret
 use Rattle.ir_tree.specs.declared.types.Operand.{Operand}
 use Rattle.ir_tree.specs.declared.types.Instr.{Instr}
 use Rattle.ir_tree.specs.declared.types.Instr.TheVariants as ir
-use Rattle.ir_tree.specs.declared.types.Term.{Term}
 use Rattle.ir_tree.specs.declared.types.Block.{Block}
 use Rattle.ir_tree.specs.declared.types.Function.{Function}
 use Rattle.ir_tree.specs.declared.types.Module.{Module}
 use Rattle.ir_value.specs.Operators.{binary_of}
 use Rattle.ir_value.specs.declared.operators.DivTrap.{DivTrap}
 use Rattle.ir_value.specs.declared.operators.DivTrap.TheVariants.{DivZero, DivOverflow}
-use Rattle.ir_memory.specs.Memory.{MemoryState, dropped, live_cells, loaded, made, stored}
+use Rattle.ir_memory.specs.Memory.{MemoryState, live_cells, loaded, made, stored}
 use Rattle.ir_memory.specs.declared.error.MemError.{MemError}
 use Rattle.ir_memory.specs.declared.value.Base.TheVariants as base
 use Rattle.ir_memory.specs.declared.value.Value.TheVariants as value
@@ -39,18 +38,17 @@ use Rattle.ir_model.specs.declared.result.TrapKind.TheVariants as trap
 use Rattle.ir_model.specs.Deed as deeds
 use Rattle.ir_model.specs.Deed.{Deed, Gives, Calls, Fails, deed, Choice, Takes, Leaves, Breaks, choice, profile_callee, result_into}
 use Rattle.ir_model.specs.State.{arguments as model_arguments}
-use Rattle.ir_model.specs.State.{Registers, Frame, Shared, State, What, Shown, Did, Targeted, Printed, Entered, Walked, Stop, Returns, Traps}
+use Rattle.ir_model.specs.State.{Frame, Shared, State, What, Shown, Did, Targeted, Printed, Entered, Walked, Stop}
 use Rattle.ir_model.specs.Step.{Step, value_of, output_most, depth_most, acted, left, done, done_in, sought, step, stepped, fails, goes_to, phis_in, with_phis, line_of, marks_lifetime, same_ret, same_type}
 use Rattle.ir_model.specs.Step as model
-use Rattle.ir_model.specs.Values.{as_number, at_type, base_of, bits_of, function_at_address, functions_of, number_at, offset_of}
-use Rattle.ir_code.specs.declared.code.Input.{Input}
+use Rattle.ir_model.specs.Values.{at_type, base_of, bits_of, function_at_address, functions_of, number_at, offset_of}
 use Rattle.ir_code.specs.declared.code.Target.{Target}
 use Rattle.ir_code.specs.declared.code.Op.{Op}
 use Rattle.ir_code.specs.declared.code.BlockCode.{BlockCode}
 use Rattle.ir_code.specs.declared.code.EdgeCode.{EdgeCode}
 use Rattle.ir_code.specs.declared.code.FunctionCode.{FunctionCode}
 use Rattle.ir_code.specs.declared.code.Work.TheVariants as work
-use Rattle.ir_code.specs.Resolved.{register_names, input_of, target_of, op_of, exit_of, block_code, block_phis, moves_at, edge_to, edges_of, numbered_code, work_of}
+use Rattle.ir_code.specs.Resolved.{register_names, input_of, target_of, op_of, exit_of, block_code, block_phis, moves_at, edge_to, numbered_code}
 use Rattle.ir_code.specs.Symbols.{symbol_input}
 use Rattle.ir_code.specs.Units.{Unit_, counter_span, site_span, told, all_told, units_of}
 use Rattle.ir_machine.specs.declared.state.Frame.{Frame as CodeFrame}

@@ -1,6 +1,6 @@
 -- An operation does what its instruction does, and an exit what its terminator does, where the inputs of both have one value.
-use Rattle.std.proofs.Common.{◌≡◌, ℕ, zero, suc, ◌+◌, ◌==◌, Bool, true, false, cond, List, [], ◌∷◌, ◌++◌, length, map, Option, Some, None, refl, sym, ◌∙◌, ap, subst, arith}
-use Rattle.std.specs.Prelude.{slice_get, position, nat_le, nat_lt, max, not, pos, ℤ, ◌+ℤ◌, ◌*ℤ◌, Result, Ok, Err, if◌then◌else◌, codes, drop}
+use Rattle.std.proofs.Common.{◌≡◌, ℕ, ◌+◌, ◌==◌, Bool, true, false, cond, List, [], ◌∷◌, ◌++◌, map, Option, Some, None, refl, sym, ap}
+use Rattle.std.specs.Prelude.{position, nat_le, nat_lt, max, not, pos, ℤ, ◌+ℤ◌, ◌*ℤ◌, Result, Ok, Err, codes, drop}
 use Rattle.std.specs.Option.{option_map}
 use Rattle.std.specs.List.{position_or_len}
 use Rattle.std.proofs.lemmas.List.{length-map}
@@ -29,10 +29,10 @@ use Rattle.ir_model.specs.declared.probe.Event.{Event}
 use Rattle.ir_model.specs.Deed as model
 use Rattle.ir_model.specs.Deed.{Deed, Gives, Calls, Fails, Choice, Takes, behind_default, profile_callee, profile_shown, unit_of}
 use Rattle.ir_model.specs.Sizes.{bytes_of, element_of, size_of}
-use Rattle.ir_model.specs.State.{What, Added, Noted, Chose}
+use Rattle.ir_model.specs.State.{What, Added}
 use Rattle.ir_model.specs.Values.{as_number, at_type, base_of, bits_of, offset_of, function_at_address, number_at}
 use Rattle.ir_code.specs.Resolved.{input_of, target_of, typed_input, inner_indices, indices_of, profile_op, call_op, op_of, exit_of}
-use Rattle.ir_code.specs.Units.{Unit_, counter_span, site_span, added, noted, told, all_told}
+use Rattle.ir_code.specs.Units.{Unit_, counter_span, site_span, added, noted, all_told}
 use Rattle.ir_code.specs.declared.code.Input.{Input}
 use Rattle.ir_code.specs.declared.code.Input.TheVariants as inputs
 use Rattle.ir_code.specs.declared.code.Op.{Op}

@@ -5,7 +5,7 @@ use Rattle.std.specs.Prelude.{reverse}
 use Rattle.ir_model.specs.declared.result.TrapKind.TheVariants as trap
 use Rattle.ir_machine.specs.declared.state.Machine.{Machine}
 use Rattle.ir_machine.specs.declared.state.Turn.TheVariants as turn
-use Rattle.ir_machine.specs.Steps.{Byte, CodeState, bytes, sights, shared_of, state_of, waiting_of, Prints, After, Comes, prints, goes_to, fails}
+use Rattle.ir_machine.specs.Steps.{Byte, CodeState, bytes, sights, waiting_of, Prints, After, Comes, prints, goes_to, fails}
 
 pub bytes_all : (text : List ℕ) → bytes (map Byte text) ≡ text
 bytes_all [] = refl

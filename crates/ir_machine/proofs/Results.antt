@@ -1,5 +1,5 @@
 -- What is seen of the run of a call on resolved code is the call's result, and its marks are those of the call.
-use Rattle.std.proofs.Common.{◌≡◌, ℕ, suc, ◌+◌, ◌<◌, Bool, true, false, cond, List, [], ◌∷◌, ◌++◌, length, map, Option, Some, None, refl, sym, ◌∙◌, ap, subst, arith}
+use Rattle.std.proofs.Common.{◌≡◌, ℕ, suc, ◌+◌, ◌<◌, Bool, true, false, cond, List, [], ◌∷◌, ◌++◌, length, map, Some, None, refl, sym, ◌∙◌, ap, subst, arith}
 use Rattle.std.specs.Prelude.{nat_lt}
 use Rattle.std.proofs.lemmas.List.{length-map}
 use Rattle.ir_tree.specs.Blocks.{labels}
@@ -12,7 +12,6 @@ use Rattle.ir_memory.specs.declared.value.Value.{Value}
 use Rattle.ir_memory.specs.declared.value.Value.TheVariants as value
 use Rattle.ir_model.specs.declared.probe.Event.{Event}
 use Rattle.ir_model.specs.declared.probe.Event.TheVariants as event
-use Rattle.ir_model.specs.declared.result.Call.{Call}
 use Rattle.ir_model.specs.declared.result.CallResult.{CallResult}
 use Rattle.ir_model.specs.declared.result.End.{End}
 use Rattle.ir_model.specs.declared.result.End.TheVariants as end
@@ -21,20 +20,17 @@ use Rattle.ir_model.specs.Initial.{initial_memory}
 use Rattle.ir_model.specs.State.{arguments as model_arguments}
 use Rattle.ir_model.specs.State.{Frame, State, What, Added, Noted, Chose, Shown, Did, Targeted, Printed, Entered, Walked, printed, printed_one, Stop, Returns, Traps}
 use Rattle.ir_model.specs.Step.{step}
-use Rattle.ir_model.specs.Run.{at_first, begun, first_entered, run_of, result_of, marks, marks_one, mark_of, marks_of, FitsAll}
-use Rattle.ir_code.specs.declared.code.FunctionCode.{FunctionCode}
-use Rattle.ir_code.specs.Names.{number_of}
+use Rattle.ir_model.specs.Run.{at_first, begun, first_entered, result_of, marks, marks_one, mark_of, marks_of, FitsAll}
 use Rattle.ir_code.specs.Resolved.{register_names, numbered_code, function_code, module_code}
 use Rattle.ir_code.specs.Symbols.{symbol_input}
-use Rattle.ir_code.specs.Units.{Unit_, counter_span, site_span, added, noted, told, all_told, numbered_marks, units_of}
+use Rattle.ir_code.specs.Units.{Unit_, counter_span, site_span, told, all_told, numbered_marks}
 use Rattle.ir_machine.specs.declared.state.Sight.{Sight}
 use Rattle.ir_machine.specs.declared.state.Sight.TheVariants as sight
-use Rattle.ir_machine.specs.Steps.{CodeState, CodeShown, Byte, Saw, bytes, sights, seen_mark, seen_marks, code_step, end_of, events_of, first_registers, first_state, result_from}
-use Rattle.ir_machine.proofs.Places.{place_of, placed as places}
-use Rattle.ir_machine.proofs.Held.{Holds}
+use Rattle.ir_machine.specs.Steps.{CodeState, CodeShown, Byte, Saw, bytes, sights, seen_marks, code_step, events_of, first_registers, first_state, result_from}
+use Rattle.ir_machine.proofs.Places.{placed as places}
 use Rattle.ir_machine.proofs.Operations.{behind_none}
 use Rattle.ir_machine.proofs.WaysOut.{AreWithin, run_within, shown_behind}
-use Rattle.ir_machine.proofs.InStep.{units, placed_code, placed, view, view_one, Related, code_frame, begins, first_number, same_runs}
+use Rattle.ir_machine.proofs.InStep.{units, placed_code, placed, view, view_one, Related, begins, first_number, same_runs}
 
 pub bytes-append : (xs ys : List CodeShown) → bytes (xs ++ ys) ≡ bytes xs ++ bytes ys
 bytes-append [] ys = refl

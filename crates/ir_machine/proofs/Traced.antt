@@ -1,13 +1,12 @@
 -- The counts of a traced call have risen by its traversals.
-use Rattle.std.proofs.Common.{◌≡◌, ℕ, suc, ◌+◌, ◌^◌, ◌<◌, ◌≤◌, List, [], ◌∷◌, length, get_or, Option, Some, None, refl, sym, ◌∙◌, ap, subst, arith}
+use Rattle.std.proofs.Common.{◌≡◌, ℕ, ◌+◌, ◌^◌, ◌<◌, ◌≤◌, List, ◌∷◌, length, get_or, Option, sym, ◌∙◌, ap, subst, arith}
 use Rattle.std.specs.Prelude.{Result, Ok, Err, OnOk}
 use Rattle.std.specs.List.{count_by}
 use Rattle.ir_tree.specs.Functions.{numbered}
 use Rattle.ir_tree.specs.declared.types.Module.{Module}
 use Rattle.ir_model.specs.declared.result.Call.{Call}
-use Rattle.spec_machines.specs.Machine.{shown_of}
 use Rattle.ir_model.specs.State.{Shown, Entered}
-use Rattle.ir_model.specs.Run.{run_of, IsValidCall}
+use Rattle.ir_model.specs.Run.{IsValidCall}
 use Rattle.ir_model.specs.Log.{log, is_walk_of, traversals}
 use Rattle.ir_machine.specs.declared.slots.FunctionSlots.{FunctionSlots}
 use Rattle.ir_machine.specs.declared.state.Sight.TheVariants as sight

@@ -9,15 +9,14 @@ use Rattle.std.proofs.lemmas.Bool.{eqb-true, eq-eqb}
 use Rattle.std.proofs.lemmas.Option.{slice_get_within, get_or_from_slice_get}
 use Rattle.ir_tree.specs.Blocks.{labels, block_named, block_place}
 use Rattle.ir_tree.specs.Functions.{function_at, numbered}
-use Rattle.ir_tree.specs.Names.{same}
 use Rattle.ir_tree.specs.declared.types.Block.{Block}
 use Rattle.ir_tree.specs.declared.types.Function.{Function}
 use Rattle.ir_tree.specs.declared.types.Module.{Module}
 use Rattle.ir_model.specs.declared.probe.Event.{Event}
 use Rattle.ir_model.specs.declared.probe.Event.TheVariants as event
-use Rattle.ir_model.specs.State.{Shown, Did, Targeted, Printed, Entered, Walked, What}
+use Rattle.ir_model.specs.State.{Shown, Did, Targeted, Printed, Entered, Walked}
 use Rattle.ir_model.specs.Step.{sought}
-use Rattle.ir_model.specs.Log.{Walk, Into, Out, logged, log, is_at, sought_place, is_walk_of}
+use Rattle.ir_model.specs.Log.{Walk, Into, Out, log, is_at, sought_place, is_walk_of}
 use Rattle.ir_code.specs.Units.{told}
 use Rattle.ir_machine.specs.declared.slots.FunctionSlots.{FunctionSlots}
 use Rattle.ir_machine.specs.declared.state.Sight.{Sight}
@@ -25,11 +24,11 @@ use Rattle.ir_machine.specs.declared.state.Sight.TheVariants as sight
 use Rattle.ir_machine.specs.Steps.{sights, seen_marks}
 use Rattle.ir_machine.specs.Counts.{one_more, raised, raised_to, raised_entry, raised_way, raised_out, raised_by, counted}
 use Rattle.ir_machine.specs.Slots.{edges_of_all, first_edge_of, slot_of, HasEdge, HasEdgeIn, IsWayOut, place_in, block_slots, function_slots, all_slots}
-use Rattle.ir_machine.proofs.InStep.{block_number, units, view, view_one}
+use Rattle.ir_machine.proofs.InStep.{block_number, units, view}
 use Rattle.ir_machine.proofs.Places.{place_of, place_among, block_at}
 use Rattle.ir_machine.proofs.Numbers.{ways_before, block_slot, function_slot, slot_inside, slot_apart, SameEdge, decided}
 use Rattle.ir_machine.proofs.Results.{sights-append}
-use Rattle.ir_machine.proofs.WaysOut.{IsOwn, AreOwn}
+use Rattle.ir_machine.proofs.WaysOut.{AreOwn}
 
 got : (xs : List ℕ) (i : ℕ) → i < length xs → slice_get xs i ≡ Some (get_or xs i 0)
 got [] i h = absurd (omega arith)

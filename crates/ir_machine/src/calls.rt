@@ -9,9 +9,9 @@ ghost use Rattle.ir_model.specs.Values as values;
 ghost use Rattle.ir_machine.specs.Steps as spec;
 ghost use Rattle.ir_machine.specs.Steps.{input_value, noted_at, valued, Comes, Does, DoesAlone, Prints, waiting_of};
 
-use crate::registers::value_of;
+use crate::registers::{number_of, value_of};
 use crate::state::{Frame, Machine, Sight, Turn};
-use ir_code::{FunctionCode, Input, Span, Target, Work, as_number, at_type, number_at};
+use ir_code::{FunctionCode, Input, Span, Target, Work, as_number, at_type};
 use ir_memory::Value;
 use ir_model::TrapKind;
 use ir_tree::{Ret, Seq, Ty};
@@ -41,11 +41,7 @@ fn function_at(count: usize, address: u64) -> Option<usize>
 fn is_same_type(left: Ty, right: Ty) -> bool
     ensures { result ≡ model.same_type left right }
 {
-    match (left.width(), right.width()) {
-        (None, None) => true,
-        (Some(left), Some(right)) => left == right,
-        (None, Some(_)) | (Some(_), None) => false,
-    }
+    left == right
 }
 
 /// Whether two types of return are one.
@@ -69,7 +65,7 @@ fn read_args(
 {
     values.clear();
     for (_, input) in args {
-        values.push(value_of(registers, *input))?;
+        values.push(value_of(registers, input))?;
     }
     Ok(())
 }
@@ -141,8 +137,8 @@ fn print_first(machine: &mut Machine, args: &[(Ty, Input)]) -> Result<Turn, NoMe
 {
     match args.first() {
         Some((_, input)) => {
-            let value = value_of(machine.top.registers.as_slice(), *input);
-            print(machine, number_at(Ty::I64, value))
+            let number = number_of(machine.top.registers.as_slice(), Ty::I64, input);
+            print(machine, number)
         }
         None => Ok(Turn::Traps(TrapKind::External)),
     }
@@ -260,10 +256,10 @@ pub fn call(
     machine: &mut Machine,
     into: Option<Target>,
     ret: Ret,
-    callee: Input,
+    callee: &Input,
     args: &[(Ty, Input)],
 ) -> Result<Turn, NoMemory>
-    ensures { IfOk result (λ turn. Does functions.now machine.old (spec.Calls into ret (values.as_number (input_value machine.old.top.registers callee)) (map (valued machine.old.top.registers) args.now)) turn machine.new) }
+    ensures { IfOk result (λ turn. Does functions.now machine.old (spec.Calls into ret (values.as_number (input_value machine.old.top.registers callee.now)) (map (valued machine.old.top.registers) args.now)) turn machine.new) }
 {
     let address = as_number(value_of(machine.top.registers.as_slice(), callee));
     let Some(number) = function_at(functions.len(), address) else {
@@ -280,14 +276,14 @@ pub fn note(
     functions: usize,
     machine: &Machine,
     unit: Span,
-    site: Input,
-    target: Input,
+    site: &Input,
+    target: &Input,
 ) -> Result<Turn, NoMemory>
     requires { functions < 2 ^ 63 }
-    ensures { IfOk result (λ turn. DoesAlone machine.now (spec.Gives None (value.Int 0) machine.now.memory (noted_at unit (values.as_number (input_value machine.now.top.registers site)) (values.function_at_address functions (values.number_at I64 (input_value machine.now.top.registers target))))) turn machine.now) }
+    ensures { IfOk result (λ turn. DoesAlone machine.now (spec.Gives None (value.Int 0) machine.now.memory (noted_at unit (values.as_number (input_value machine.now.top.registers site.now)) (values.function_at_address functions (values.number_at I64 (input_value machine.now.top.registers target.now))))) turn machine.now) }
 {
     let registers = machine.top.registers.as_slice();
-    let address = number_at(Ty::I64, value_of(registers, target));
+    let address = number_of(registers, Ty::I64, target);
     let Some(callee) = function_at(functions, address) else {
         return Ok(Turn::Goes);
     };

@@ -12,11 +12,10 @@ ghost use Rattle.ir_model.specs.Values as values;
 ghost use Rattle.ir_code.specs.Units.{added};
 ghost use Rattle.ir_machine.specs.Steps.{input_value, distance, noted_at, Gives, computed, allocated, read_as, wrote, DoesAlone};
 
-use crate::registers::{assign, value_of};
+use crate::registers::{assign, number_of, typed_value_of, value_of};
 use crate::state::{Machine, Sight, Turn};
 use ir_code::{
-    Input, Scaled, Span, as_number, at_type, base_of, bits_of, bytes_of, is_pointer, number_at,
-    offset_of,
+    Input, Scaled, Span, as_number, at_type, base_of, bits_of, bytes_of, is_pointer, offset_of,
 };
 use ir_memory::{Base, MemError, Value};
 use ir_model::TrapKind;
@@ -25,18 +24,19 @@ use ir_value::{DivTrap, ValueOp, ValuePred, binary, compare, convert_signed, tru
 use pgo_base::NoMemory;
 
 /// The value of an operand of the function that runs.
-fn value_in(machine: &Machine, input: Input) -> Value
-    ensures { result ≡ input_value machine.now.top.registers input }
+fn value_in(machine: &Machine, input: &Input) -> Value
+    ensures { result ≡ input_value machine.now.top.registers input.now }
 {
     value_of(machine.top.registers.as_slice(), input)
 }
 
 /// The value of an operand at a type, as a number.
-fn number_in(machine: &Machine, ty: Ty, input: Input) -> u64
-    ensures value { result ≡ values.number_at ty (input_value machine.now.top.registers input) }
+#[inline(always)]
+fn number_in(machine: &Machine, ty: Ty, input: &Input) -> u64
+    ensures value { result ≡ values.number_at ty (input_value machine.now.top.registers input.now) }
     ensures fits { result < 2 ^ values.bits_of ty }
 {
-    number_at(ty, value_in(machine, input))
+    number_of(machine.top.registers.as_slice(), ty, input)
 }
 
 /// Goes on with a value in a register.
@@ -64,10 +64,10 @@ pub fn compute(
     into: usize,
     op: ValueOp,
     ty: Ty,
-    left: Input,
-    right: Input,
+    left: &Input,
+    right: &Input,
 ) -> Turn
-    ensures { DoesAlone machine.old (computed into machine.old.memory (binary_of op (values.bits_of ty) (values.number_at ty (input_value machine.old.top.registers left)) (values.number_at ty (input_value machine.old.top.registers right)))) result machine.new }
+    ensures { DoesAlone machine.old (computed into machine.old.memory (binary_of op (values.bits_of ty) (values.number_at ty (input_value machine.old.top.registers left.now)) (values.number_at ty (input_value machine.old.top.registers right.now)))) result machine.new }
 {
     let left = number_in(machine, ty, left);
     let right = number_in(machine, ty, right);
@@ -80,10 +80,10 @@ pub fn compare_numbers(
     into: usize,
     pred: ValuePred,
     ty: Ty,
-    left: Input,
-    right: Input,
+    left: &Input,
+    right: &Input,
 ) -> Turn
-    ensures { DoesAlone machine.old (Gives (Some into) (value.Int (if compare_of pred (values.bits_of ty) (values.number_at ty (input_value machine.old.top.registers left)) (values.number_at ty (input_value machine.old.top.registers right)) then 1 else 0)) machine.old.memory []) result machine.new }
+    ensures { DoesAlone machine.old (Gives (Some into) (value.Int (if compare_of pred (values.bits_of ty) (values.number_at ty (input_value machine.old.top.registers left.now)) (values.number_at ty (input_value machine.old.top.registers right.now)) then 1 else 0)) machine.old.memory []) result machine.new }
 {
     let left = number_in(machine, ty, left);
     let right = number_in(machine, ty, right);
@@ -110,19 +110,19 @@ pub fn convert(
     op: ConvOp,
     from: Ty,
     to: Ty,
-    input: Input,
+    input: &Input,
 ) -> Turn
-    ensures { DoesAlone machine.old (Gives (Some into) (value.Int (model.converted op (values.bits_of from) (values.bits_of to) (values.number_at from (input_value machine.old.top.registers input)))) machine.old.memory []) result machine.new }
+    ensures { DoesAlone machine.old (Gives (Some into) (value.Int (model.converted op (values.bits_of from) (values.bits_of to) (values.number_at from (input_value machine.old.top.registers input.now)))) machine.old.memory []) result machine.new }
 {
     let number = number_in(machine, from, input);
     give(machine, into, Value::Int(converted(op, from, to, number)))
 }
 
 /// A `freeze`, which gives the value itself.
-pub fn freeze(machine: &mut Machine, into: usize, ty: Ty, input: Input) -> Turn
-    ensures { DoesAlone machine.old (Gives (Some into) (values.at_type ty (input_value machine.old.top.registers input)) machine.old.memory []) result machine.new }
+pub fn freeze(machine: &mut Machine, into: usize, ty: Ty, input: &Input) -> Turn
+    ensures { DoesAlone machine.old (Gives (Some into) (values.at_type ty (input_value machine.old.top.registers input.now)) machine.old.memory []) result machine.new }
 {
-    let value = at_type(ty, value_in(machine, input));
+    let value = typed_value_of(machine.top.registers.as_slice(), ty, input);
     give(machine, into, value)
 }
 
@@ -131,11 +131,11 @@ pub fn select(
     machine: &mut Machine,
     into: usize,
     ty: Ty,
-    cond: Input,
-    yes: Input,
-    no: Input,
+    cond: &Input,
+    yes: &Input,
+    no: &Input,
 ) -> Turn
-    ensures { DoesAlone machine.old (Gives (Some into) (values.at_type ty (if values.number_at I1 (input_value machine.old.top.registers cond) == 0 then input_value machine.old.top.registers no else input_value machine.old.top.registers yes)) machine.old.memory []) result machine.new }
+    ensures { DoesAlone machine.old (Gives (Some into) (values.at_type ty (if values.number_at I1 (input_value machine.old.top.registers cond.now) == 0 then input_value machine.old.top.registers no.now else input_value machine.old.top.registers yes.now)) machine.old.memory []) result machine.new }
 {
     let chosen = if number_in(machine, Ty::I1, cond) == 0 {
         value_in(machine, no)
@@ -179,8 +179,8 @@ fn trap_of(error: MemError) -> TrapKind
 }
 
 /// A load.
-pub fn load(machine: &mut Machine, into: usize, ty: Ty, address: Input) -> Turn
-    ensures { DoesAlone machine.old (read_as into machine.old.memory ty (loaded machine.old.memory (values.base_of (input_value machine.old.top.registers address)) (values.offset_of (input_value machine.old.top.registers address)) (sizes.bytes_of ty) (is_pointer_type ty))) result machine.new }
+pub fn load(machine: &mut Machine, into: usize, ty: Ty, address: &Input) -> Turn
+    ensures { DoesAlone machine.old (read_as into machine.old.memory ty (loaded machine.old.memory (values.base_of (input_value machine.old.top.registers address.now)) (values.offset_of (input_value machine.old.top.registers address.now)) (sizes.bytes_of ty) (is_pointer_type ty))) result machine.new }
 {
     let address = value_in(machine, address);
     let loaded = machine.memory.load(
@@ -196,11 +196,11 @@ pub fn load(machine: &mut Machine, into: usize, ty: Ty, address: Input) -> Turn
 }
 
 /// A store.
-pub fn store(machine: &mut Machine, ty: Ty, input: Input, address: Input) -> Turn
-    ensures { DoesAlone machine.old (wrote (stored machine.old.memory (values.base_of (input_value machine.old.top.registers address)) (values.offset_of (input_value machine.old.top.registers address)) (sizes.bytes_of ty) (values.at_type ty (input_value machine.old.top.registers input)))) result machine.new }
+pub fn store(machine: &mut Machine, ty: Ty, input: &Input, address: &Input) -> Turn
+    ensures { DoesAlone machine.old (wrote (stored machine.old.memory (values.base_of (input_value machine.old.top.registers address.now)) (values.offset_of (input_value machine.old.top.registers address.now)) (sizes.bytes_of ty) (values.at_type ty (input_value machine.old.top.registers input.now)))) result machine.new }
 {
     let address = value_in(machine, address);
-    let value = at_type(ty, value_in(machine, input));
+    let value = typed_value_of(machine.top.registers.as_slice(), ty, input);
     let stored = machine
         .memory
         .store(base_of(address), offset_of(address), bytes_of(ty), value);
@@ -216,7 +216,7 @@ fn travel(registers: &[Value], start: u64, indices: &[Scaled]) -> u64
 {
     let mut offset = start;
     for one in indices {
-        let number = number_at(one.ty, value_of(registers, one.index));
+        let number = number_of(registers, one.ty, &one.index);
         let index = convert_signed(bits_of(one.ty), 64, number);
         offset = offset.wrapping_add(index.wrapping_mul(one.size));
     }
@@ -224,8 +224,8 @@ fn travel(registers: &[Value], start: u64, indices: &[Scaled]) -> u64
 }
 
 /// A `getelementptr`.
-pub fn point(machine: &mut Machine, into: usize, address: Input, indices: &[Scaled]) -> Turn
-    ensures { DoesAlone machine.old (Gives (Some into) (model.moved (input_value machine.old.top.registers address) (distance machine.old.top.registers indices.now)) machine.old.memory []) result machine.new }
+pub fn point(machine: &mut Machine, into: usize, address: &Input, indices: &[Scaled]) -> Turn
+    ensures { DoesAlone machine.old (Gives (Some into) (model.moved (input_value machine.old.top.registers address.now) (distance machine.old.top.registers indices.now)) machine.old.memory []) result machine.new }
 {
     let address = value_in(machine, address);
     let registers = machine.top.registers.as_slice();
@@ -235,8 +235,8 @@ pub fn point(machine: &mut Machine, into: usize, address: Input, indices: &[Scal
 }
 
 /// A counter of a unit rises; one that the unit does not have is not told.
-pub fn add(machine: &Machine, unit: Span, counter: Input, step: Input) -> Result<Turn, NoMemory>
-    ensures { IfOk result (λ turn. DoesAlone machine.now (Gives None (value.Int 0) machine.now.memory (added unit (values.as_number (input_value machine.now.top.registers counter)) (values.number_at I64 (input_value machine.now.top.registers step)))) turn machine.now) }
+pub fn add(machine: &Machine, unit: Span, counter: &Input, step: &Input) -> Result<Turn, NoMemory>
+    ensures { IfOk result (λ turn. DoesAlone machine.now (Gives None (value.Int 0) machine.now.memory (added unit (values.as_number (input_value machine.now.top.registers counter.now)) (values.number_at I64 (input_value machine.now.top.registers step.now)))) turn machine.now) }
 {
     let counter = as_number(value_in(machine, counter));
     let step = number_in(machine, Ty::I64, step);

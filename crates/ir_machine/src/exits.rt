@@ -7,9 +7,9 @@ ghost use Rattle.ir_machine.specs.Steps as spec;
 ghost use Rattle.ir_machine.specs.Steps.{input_value, Comes};
 ghost use Rattle.ir_machine.specs.declared.state.Sight.TheVariants as sight;
 
-use crate::registers::{assign_target, move_all, value_of};
+use crate::registers::{assign_target, move_all, number_of, typed_value_of};
 use crate::state::{Machine, Sight, Turn};
-use ir_code::{Cases, EdgeCode, Exit, Input, Target, as_number, at_type, number_at};
+use ir_code::{Cases, EdgeCode, Exit, Input, Target, as_number};
 use ir_memory::Value;
 use ir_model::TrapKind;
 use ir_tree::Ty;
@@ -102,7 +102,7 @@ fn returned(registers: &[Value], value: Option<(Ty, Input)>) -> Option<Value>
     ensures { result ≡ option_map (λ u. values.at_type u.0 (input_value registers.now u.1)) value }
 {
     match value {
-        Some((ty, input)) => Some(at_type(ty, value_of(registers, input))),
+        Some((ty, input)) => Some(typed_value_of(registers, ty, &input)),
         None => None,
     }
 }
@@ -132,12 +132,12 @@ fn switch(
     machine: &mut Machine,
     edges: &[EdgeCode],
     ty: Ty,
-    value: Input,
+    value: &Input,
     cases: &Cases,
 ) -> Result<Turn, NoMemory>
-    ensures { IfOk result (λ turn. Comes machine.old (λ fr rest sh. spec.exited fr rest sh edges.now (Takes (behind_default (position (λ n. n == values.number_at ty (input_value machine.old.top.registers value)) cases.now)))) turn machine.new) }
+    ensures { IfOk result (λ turn. Comes machine.old (λ fr rest sh. spec.exited fr rest sh edges.now (Takes (behind_default (position (λ n. n == values.number_at ty (input_value machine.old.top.registers value.now)) cases.now)))) turn machine.new) }
 {
-    let number = number_at(ty, value_of(machine.top.registers.as_slice(), value));
+    let number = number_of(machine.top.registers.as_slice(), ty, value);
     walk_case(machine, edges, cases.place(number))
 }
 
@@ -149,10 +149,10 @@ pub fn leave(machine: &mut Machine, edges: &[EdgeCode], exit: &Exit) -> Result<T
     match exit {
         Exit::Go => walk(machine, edges, 0),
         Exit::Choose { cond } => {
-            let cond = number_at(Ty::I1, value_of(registers, *cond));
+            let cond = number_of(registers, Ty::I1, cond);
             walk(machine, edges, if cond == 0 { 1 } else { 0 })
         }
-        Exit::Switch { ty, value, cases } => switch(machine, edges, *ty, *value, cases),
+        Exit::Switch { ty, value, cases } => switch(machine, edges, *ty, value, cases),
         Exit::Return { value } => {
             let value = returned(registers, *value);
             Ok(give_back(machine, value))

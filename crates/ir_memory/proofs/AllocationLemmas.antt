@@ -2,13 +2,11 @@
 use Rattle.std.proofs.Common.{◌≡◌, ◌≢◌, ℕ, zero, suc, ◌+◌, ◌<◌, ◌≤◌, Bool, true, false, List, [], ◌∷◌, ◌++◌, length, get_or, set, take, filter, Some, None, refl, sym, ap, ◌∙◌, arith, eq-eqb, inl, inr, subst}
 use Rattle.std.specs.Prelude.{nat_lt, ◌==◌, if◌then◌else◌}
 use Rattle.std.specs.List.{AllWithin}
-use Rattle.std.specs.List.Sorted.{IsNonDecreasingBy}
 use Rattle.std.proofs.lemmas.Bool.{ne_eqb, false≢true, cases_eq, cases_lt}
 use Rattle.std.proofs.lemmas.Bool.Decides.{nat_tests}
 use Rattle.std.proofs.lemmas.Option.{same_Some}
-use Rattle.ir_memory.specs.declared.allocation.Allocation.{Allocation}
 use Rattle.ir_memory.specs.Cell.{Cell}
-use Rattle.ir_memory.specs.Memory.{found, with_cells}
+use Rattle.ir_memory.specs.Memory.{Allocation, found, with_cells}
 use Rattle.ir_memory.specs.Sound.{Rises}
 
 pub if_true : {X : Type 0} (b : Bool) (x y : X) → b ≡ true → (if b then x else y) ≡ x
@@ -54,14 +52,6 @@ Rises-set low (b ∷ live) next r zero a d h e =
     let P : ℕ → Type 0 = λ n. (low ≤ n) × Rises (suc n) live next in subst P (sym e) r
 Rises-set low (b ∷ live) next r (suc i) a d h e = (r.0, Rises-set (suc b.number) live next r.1 i a d (omega arith) e)
 
-pub Rises_in_order : (low : ℕ) (live : List Allocation) (next : ℕ) → Rises low live next → IsNonDecreasingBy (λ a. a.number) live
-Rises_in_order low [] next r i j d h k = absurd (omega arith)
-Rises_in_order low (a ∷ live) next r zero zero d h k = omega arith
-Rises_in_order low (a ∷ live) next r zero (suc j) d h k =
-    let t = number_above (suc a.number) live next r.1 j d (omega arith) in omega (arith, t)
-Rises_in_order low (a ∷ live) next r (suc i) zero d h k = absurd (omega arith)
-Rises_in_order low (a ∷ live) next r (suc i) (suc j) d h k = Rises_in_order (suc a.number) live next r.1 i j d (omega arith) (omega arith)
-
 -- each allocation is found by its number
 pub found_here : (low : ℕ) (live : List Allocation) (next : ℕ) → Rises low live next
     → (i : ℕ) (d : Allocation) → i < length live → found live (get_or live i d).number ≡ Some (get_or live i d)
@@ -72,14 +62,6 @@ found_here low (a ∷ live) next r (suc i) d h =
     let t : suc a.number ≤ b.number = number_above (suc a.number) live next r.1 i d (omega arith) in
     if_false (a.number == b.number) _ _ (ne_eqb a.number b.number (λ e. omega (arith, e, t)))
     ∙ found_here (suc a.number) live next r.1 i d (omega arith)
-
--- a number that no allocation has is not found
-pub not_found : (live : List Allocation) (number : ℕ) → ((i : ℕ) (d : Allocation) → i < length live → (get_or live i d).number ≢ number)
-    → found live number ≡ None
-not_found [] number none = refl
-not_found (a ∷ live) number none =
-    if_false (a.number == number) _ _ (ne_eqb a.number number (none 0 a (omega arith)))
-    ∙ not_found live number (λ i d h. none (suc i) d (omega arith))
 
 -- what is found has the number
 pub found_number : (live : List Allocation) (number : ℕ) (a : Allocation) → found live number ≡ Some a → a.number ≡ number

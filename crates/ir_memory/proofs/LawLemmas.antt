@@ -6,7 +6,6 @@ use Rattle.std.proofs.lemmas.Bool.Decides.{nat_tests}
 use Rattle.std.proofs.lemmas.List.{drop-drop}
 use Rattle.std.proofs.lemmas.Slice.{take-put_mid_below, drop-put_mid, between-put_mid, between_is}
 use borrow.Rule.Slice.PartMut.{put_mid}
-use Rattle.ir_memory.specs.declared.allocation.Allocation.{Allocation}
 use Rattle.ir_memory.specs.declared.value.Value.{Value}
 use Rattle.ir_memory.specs.declared.value.Base.TheVariants.{Null, Function, Object}
 use Rattle.ir_memory.specs.declared.error.MemError.{MemError}
@@ -14,11 +13,11 @@ use Rattle.ir_memory.specs.declared.error.MemError.TheVariants.{Access}
 use Rattle.ir_memory.specs.Cell.{Cell}
 use Rattle.ir_memory.specs.Contents.{FitsIn, cells_of, overwritten, is_pointer}
 use Rattle.ir_memory.specs.Laws.{ChangesOnlyRange}
-use Rattle.ir_memory.specs.Memory.{MemoryState, found, with_cells, range_of, range_found, cells_at, read, loaded, accepts, written, written_in, IsAt}
+use Rattle.ir_memory.specs.Memory.{Allocation, MemoryState, found, with_cells, range_of, range_found, cells_at, read, loaded, accepts, written, written_in}
 use Rattle.ir_memory.specs.Sound.{Rises}
 use Rattle.ir_memory.proofs.AllocationLemmas.{if_true, if_false, found_number, found-with_cells_same, found-with_cells_other}
 use Rattle.ir_memory.proofs.ContentsLemmas.{value_in-cells_of, length-cells_of}
-use Rattle.ir_memory.proofs.MemoryLemmas.{room, length-overwritten, written_here}
+use Rattle.ir_memory.proofs.MemoryLemmas.{IsAt, room, length-overwritten, written_here}
 
 -- a value was written in this allocation
 pub record Wrote (m n : MemoryState) (number offset width : ℕ) (value : Value) : Type 0 where

@@ -4,3 +4,7 @@ pub mod AllocationLemmas
 pub mod MemoryLemmas
 pub mod LawLemmas
 pub mod PointerLemmas
+pub mod PackedLemmas
+pub mod ReadLemmas
+pub mod ObjectLemmas
+pub mod WholeLemmas

@@ -1,9 +1,6 @@
 -- A cell of memory is a byte, or one of the eight pieces of a pointer.
-use Rattle.std.specs.Prelude.{◌≡◌, ℕ, ◌*◌, ◌/◌, ◌%◌, ◌^◌, ◌<◌, Bool, false, ◌&&◌, ◌==◌, Option, Some, None, refl}
+use Rattle.std.specs.Prelude.{ℕ, ◌*◌, ◌/◌, ◌%◌, ◌^◌, Bool, false, ◌&&◌, ◌==◌, Option, Some, None}
 use Rattle.ir_memory.specs.declared.value.Base.{Base}
-use Rattle.ir_memory.specs.declared.value.Base.TheVariants.{Null, Function, Object}
-use Rattle.ir_memory.specs.declared.cell.Stored.{Stored}
-use Rattle.ir_memory.specs.declared.cell.Stored.TheVariants.{StoredByte, NullPiece, FunctionPiece, ObjectPiece}
 use Rattle.ir_memory.specs.Address.{address_of, same_base}
 
 pub data Cell : Type 0 where
@@ -29,29 +26,3 @@ pointer_of (Piece base offset index) = Some (base, offset)
 abbrev pub is_piece : Base → ℕ → ℕ → Cell → Bool
 is_piece base offset k (Byte value) = false
 is_piece base offset k (Piece b o index) = same_base base b && (offset == o) && (k == index)
-
--- the cell that is stored, and how a cell is stored
-abbrev pub shown : Stored → Cell
-shown (StoredByte value) = Byte value
-shown (NullPiece index offset) = Piece Null offset index
-shown (FunctionPiece index function offset) = Piece (Function function) offset index
-shown (ObjectPiece index object offset) = Piece (Object object) offset index
-
-abbrev pub kept : Cell → Stored
-kept (Byte value) = StoredByte value
-kept (Piece Null offset index) = NullPiece index offset
-kept (Piece (Function function) offset index) = FunctionPiece index function offset
-kept (Piece (Object object) offset index) = ObjectPiece index object offset
-
-pub kept-shown : (s : Stored) → kept (shown s) ≡ s
-kept-shown (StoredByte value) = refl
-kept-shown (NullPiece index offset) = refl
-kept-shown (FunctionPiece index function offset) = refl
-kept-shown (ObjectPiece index object offset) = refl
-
--- a pointer has eight pieces
-abbrev pub IsOneOfEight : Stored → Type 0
-IsOneOfEight (StoredByte value) = Unit {0}
-IsOneOfEight (NullPiece index offset) = index < 8
-IsOneOfEight (FunctionPiece index function offset) = index < 8
-IsOneOfEight (ObjectPiece index object offset) = index < 8

@@ -1,8 +1,7 @@
 -- An object that begins with given cells.
-use Rattle.std.specs.Prelude.{ℕ, ◌+◌, Bool, List, [], ◌∷◌, ◌++◌}
-use Rattle.ir_memory.specs.declared.allocation.Allocation.{Allocation}
+use Rattle.std.specs.Prelude.{◌+◌, Bool, List, [], ◌∷◌, ◌++◌}
 use Rattle.ir_memory.specs.Cell.{Cell}
-use Rattle.ir_memory.specs.Memory.{MemoryState}
+use Rattle.ir_memory.specs.Memory.{Allocation, MemoryState}
 
 -- one more allocation, of these cells
 abbrev pub made_of : MemoryState → List Cell → Bool → MemoryState

@@ -3,6 +3,8 @@ pub mod Cell
 pub mod Bytes
 pub mod Contents
 pub mod Memory
+pub mod Packed
+pub mod Objects
 pub mod Sound
 pub mod Laws
 pub mod Examples

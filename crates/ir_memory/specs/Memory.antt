@@ -1,14 +1,19 @@
 -- A memory is the next number of an allocation, and a finite map from the numbers of live allocations to a mark and
 -- cells: a list of allocations, by rising number.
-use Rattle.std.specs.Prelude.{◌≡◌, ℕ, ◌+◌, ◌<◌, Bool, true, false, not, ◌&&◌, ◌==◌, nat_lt, nat_le, max, List, [], ◌∷◌, ◌++◌, filter, length, replicate, take, drop, sum_by, slice_get, Option, Some, None, Result, Ok, Err, if◌then◌else◌}
+use Rattle.std.specs.Prelude.{ℕ, ◌+◌, Bool, true, false, not, ◌&&◌, ◌==◌, nat_lt, nat_le, max, List, [], ◌∷◌, ◌++◌, filter, length, replicate, take, drop, sum_by, Option, Some, None, Result, Ok, Err, if◌then◌else◌}
 use Rattle.ir_memory.specs.declared.value.Base.{Base}
 use Rattle.ir_memory.specs.declared.value.Base.TheVariants.{Null, Function, Object}
 use Rattle.ir_memory.specs.declared.value.Value.{Value}
 use Rattle.ir_memory.specs.declared.error.MemError.{MemError}
 use Rattle.ir_memory.specs.declared.error.MemError.TheVariants.{Access, Cells, BadPointer, NoMemory}
-use Rattle.ir_memory.specs.declared.allocation.Allocation.{Allocation}
 use Rattle.ir_memory.specs.Cell.{Cell, Byte}
 use Rattle.ir_memory.specs.Contents.{cells_of, value_in, overwritten}
+
+-- a live object: its number, whether stores to it are refused, and its cells
+pub record Allocation : Type 0 where
+  pub number : ℕ
+  pub constant : Bool
+  pub cells : List Cell
 
 pub record MemoryState : Type 0 where
   pub next : ℕ
@@ -99,8 +104,3 @@ IsMakeRefusal Cells = Unit {0}
 IsMakeRefusal NoMemory = Unit {0}
 IsMakeRefusal Access = ⊥
 IsMakeRefusal BadPointer = ⊥
-
--- the live allocation with a number stands at a place of the list
-pub record IsAt (live : List Allocation) (number at : ℕ) : Type 0 where
-  pub in_range : at < length live
-  pub here : found live number ≡ slice_get live at

@@ -1,7 +1,6 @@
 -- What holds of every memory: numbers rise, and the live cells are counted and within their limit.
 use Rattle.std.specs.Prelude.{◌≡◌, ℕ, suc, ◌≤◌, List, [], ◌∷◌}
-use Rattle.ir_memory.specs.declared.allocation.Allocation.{Allocation}
-use Rattle.ir_memory.specs.Memory.{live_cells}
+use Rattle.ir_memory.specs.Memory.{Allocation, live_cells}
 
 -- the numbers rise from `low` on, and all are below `next`
 abbrev pub Rises : ℕ → List Allocation → ℕ → Type 0

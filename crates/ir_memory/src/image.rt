@@ -1,10 +1,9 @@
 //! What an object holds at first.
-ghost use Rattle.std.specs.Prelude.{◌≡◌, ◌++◌, ◌≤◌, [], map, replicate, OnOk};
+ghost use Rattle.std.specs.Prelude.{◌≡◌, ◌+◌, ◌^◌, ◌<◌, ◌++◌, ◌≤◌, [], map, length, replicate, OnOk};
 ghost use Rattle.ir_memory.specs.Cell.{Byte};
 ghost use Rattle.ir_memory.specs.Contents.{FitsIn, cells_of};
 
-use crate::cell::Cell;
-use crate::contents::encode;
+use crate::cells::Cells;
 use crate::error::MemError;
 use crate::value::Value;
 use std::alloc::Global;
@@ -13,17 +12,16 @@ use std::marker::Model;
 /// The cells that an object begins with, made from the first on, and seen as a list.
 #[derive(Drop)]
 pub struct Image {
-    alloc: Global,
-    cells: Vec<Cell>,
+    cells: Cells,
 }
 
 impl Model for Image {
     ghost use Rattle.std.specs.Prelude.{List};
-    ghost use Rattle.ir_memory.specs.Cell.{Cell as CellValue};
+    ghost use Rattle.ir_memory.specs.Cell.{Cell};
 
-    ghost Value = { List CellValue };
+    ghost Value = { List Cell };
 
-    ghost view = { λ i. i.cells.items };
+    ghost view = { λ i. i.cells };
 }
 
 impl Image {
@@ -32,8 +30,7 @@ impl Image {
         ensures { result ≡ [] }
     {
         Image {
-            alloc,
-            cells: Vec::new(alloc),
+            cells: Cells::new(alloc),
         }
     }
 
@@ -43,8 +40,9 @@ impl Image {
         requires value { FitsIn width value }
         ensures { OnOk result (self.new ≡ self.old ++ cells_of width value) }
     {
-        let cells = encode(value);
-        self.cells.extend_from_slice(&cells[..width as usize])?;
+        let at = self.cells.len();
+        self.cells.push_zeros(width as usize)?;
+        self.cells.write(at, width, value);
         Ok(())
     }
 
@@ -52,8 +50,7 @@ impl Image {
     pub fn push_zeros(&mut self, count: usize) -> Result<(), MemError>
         ensures { OnOk result (self.new ≡ self.old ++ replicate count (Byte 0)) }
     {
-        let zeros = vec![in self.alloc; Cell::byte(0); count]?;
-        self.cells.extend_from_slice(zeros.as_slice())?;
+        self.cells.push_zeros(count)?;
         Ok(())
     }
 
@@ -61,16 +58,16 @@ impl Image {
     pub fn push_bytes(&mut self, bytes: &[u8]) -> Result<(), MemError>
         ensures { OnOk result (self.new ≡ self.old ++ map Byte bytes.now) }
     {
-        for byte in bytes {
-            self.cells.push(Cell::byte(*byte))?;
-        }
+        let at = self.cells.len();
+        self.cells.push_zeros(bytes.len())?;
+        self.cells.write_bytes(at, bytes);
         Ok(())
     }
 
     /// The cells in order.
-    pub(crate) fn as_slice(&self) -> &[Cell]
+    pub(crate) fn cells(&self) -> &Cells
         ensures { result.now ≡ self.now }
     {
-        self.cells.as_slice()
+        &self.cells
     }
 }

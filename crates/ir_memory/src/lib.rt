@@ -1,13 +1,14 @@
 //! The memory of a run: numbered allocations of cells, of which each is a byte or a piece of a pointer.
 #![tactic(auto)]
 
-mod allocation;
-mod cell;
+mod bytes;
 mod cells;
-mod contents;
 mod error;
 mod image;
+mod live_object;
 mod memory;
+mod parts;
+mod stored_pointer;
 mod value;
 
 pub use error::MemError;

@@ -1,12 +1,10 @@
 //! The memory: live allocations by rising number.
-ghost use Rattle.std.specs.Prelude.{◌≡◌, ℕ, ◌+◌, ◌-◌, ◌^◌, ◌<◌, ◌≤◌, ◌↔◌, max, length, option_map, true, OnOk, OnErr, IfOk, IfErr, IfSome, MatchOption};
+ghost use Rattle.std.specs.Prelude.{◌≡◌, ℕ, ◌+◌, ◌-◌, ◌^◌, ◌<◌, ◌≤◌, ◌↔◌, max, length, true, OnOk, OnErr, IfOk, IfErr};
 
-use crate::allocation::Allocation;
-use crate::cell::Cell;
 use crate::cells::Cells;
-use crate::contents::{decode, encode};
 use crate::error::MemError;
 use crate::image::Image;
+use crate::live_object::{LiveObject, count_below, counted_cells, index_of};
 use crate::value::{Base, Value};
 use std::alloc::Global;
 use std::marker::Model;
@@ -14,41 +12,42 @@ use std::marker::Model;
 /// The greatest number of live cells, of which each object counts as one at least.
 pub const CELL_LIMIT: u64 = 1_048_576;
 
-/// Numbered objects of cells. Numbers rise from 0 and are not used again.
+/// Numbered objects of cells. Numbers rise from 0 and are not used again. The cells of all live objects lie one object
+/// after the other, so that objects are made and ended without an allocation of their own.
 #[derive(Drop)]
 pub struct Memory {
-    alloc: Global,
     next: u64,
-    live: Vec<Allocation>,
     live_cells: u64,
+    objects: Vec<LiveObject>,
+    cells: Cells,
 }
 
 impl Model for Memory {
     ghost use Rattle.ir_memory.specs.Memory.{MemoryState};
-    ghost use Rattle.ir_memory.specs.Sound.{IsSound};
+    ghost use Rattle.ir_memory.specs.Objects.{IsWhole, allocations_of};
 
     ghost Value = { MemoryState };
 
-    ghost view = { λ m. record { next = m.next; live = m.live.items } };
+    ghost view = { λ m. record { next = m.next; live = allocations_of m.objects.items m.cells } };
 
-    ghost invariant = { λ m. IsSound m.next m.live.items m.live_cells };
+    ghost invariant = { λ m. IsWhole m.next m.objects.items m.cells m.live_cells };
 }
 
 impl Memory {
     ghost use Rattle.ir_memory.specs.Contents.{FitsIn, is_pointer};
     ghost use Rattle.ir_memory.specs.Image.{made_of};
     ghost use Rattle.ir_memory.specs.Laws.{ChangesOnlyRange, ReadsPointer};
-    ghost use Rattle.ir_memory.specs.Memory.{empty_memory, found, live_cells, made, dropped, loaded, placed, stored, written, cells_at, IsMakeRefusal, IsAt};
+    ghost use Rattle.ir_memory.specs.Memory.{empty_memory, found, live_cells, made, dropped, loaded, placed, stored, written, cells_at, IsMakeRefusal};
 
     /// A memory with no object, which takes no memory itself.
     pub fn new(alloc: Global) -> Memory
         ensures { result ≡ empty_memory }
     {
         Memory {
-            alloc,
             next: 0,
-            live: Vec::new(alloc),
             live_cells: 0,
+            objects: Vec::new(alloc),
+            cells: Cells::new(alloc),
         }
     }
 
@@ -68,16 +67,19 @@ impl Memory {
         ensures err { IfErr result IsMakeRefusal }
         ensures unchanged { OnErr result (self.new ≡ self.old) }
     {
-        let cells = image.as_slice();
+        let cells = image.cells();
         let counted = (cells.len() as u64).max(1);
         if CELL_LIMIT - self.live_cells < counted {
             return Err(MemError::Cells);
         }
-        let cells = Cells::copied(self.alloc, cells)?;
-        self.live.push(Allocation {
+        self.objects.reserve(1)?;
+        let start = self.cells.len();
+        self.cells.append(cells)?;
+        self.objects.push(LiveObject {
             number: self.next,
+            start,
+            size: cells.len(),
             constant,
-            cells,
         })?;
         self.next += 1;
         self.live_cells += counted;
@@ -101,13 +103,16 @@ impl Memory {
         if counted > CELL_LIMIT - self.live_cells {
             return Err(MemError::Cells);
         }
-        let cells = Cells::zeros(self.alloc, size as usize)?;
-        self.live.push(Allocation {
-            number: self.next,
-            constant,
-            cells,
-        })?;
+        self.objects.reserve(1)?;
+        let start = self.cells.len();
+        self.cells.push_zeros(size as usize)?;
         let number = self.next;
+        self.objects.push(LiveObject {
+            number,
+            start,
+            size: size as usize,
+            constant,
+        })?;
         self.next += 1;
         self.live_cells += counted;
         Ok(number)
@@ -151,10 +156,18 @@ impl Memory {
         ensures value { result ≡ loaded self.now base offset width pointer }
         ensures pointer { pointer ≡ true → ReadsPointer (cells_at self.now base offset width) result }
     {
-        match self.cells_at(base, offset, width) {
-            Some(cells) => decode(cells, pointer),
-            None => Err(MemError::Access),
+        let Base::Object(number) = base else {
+            return Err(MemError::Access);
+        };
+        let Some(at) = index_of(&self.objects, number) else {
+            return Err(MemError::Access);
+        };
+        let object = self.objects[at];
+        if !object.has_range(offset, width) {
+            return Err(MemError::Access);
         }
+        self.cells
+            .read(object.start + offset as usize, width, pointer)
     }
 
     /// Writes a value of `width` bytes: LLVM Language Reference, "'store' Instruction". It is refused with `Access`
@@ -188,34 +201,19 @@ impl Memory {
         ensures ended { (i : ℕ) → object ≤ i → found self.new.live i ≡ None }
         ensures kept { (i : ℕ) → i < object → found self.new.live i ≡ found self.old.live i }
     {
-        let keep = self.live.partition_point(|a| a.number < object);
-        let ended = counted_cells(&self.live[keep..]);
-        self.live.truncate(keep);
+        let keep = count_below(&self.objects, object);
+        if keep == self.objects.len() {
+            return;
+        }
+        let start = self.objects[keep].start;
+        let ended = counted_cells(&self.objects[keep..]);
+        self.objects.truncate(keep);
+        self.cells.truncate(start);
         self.live_cells -= ended;
     }
 
-    fn cells_at(&self, base: Base, offset: u64, width: u32) -> Option<&[Cell]>
-        ensures value { option_map (λ s. s.now) result ≡ cells_at self.now base offset width }
-        ensures width { IfSome result (λ s. length s.now ≡ width) }
-    {
-        let Base::Object(object) = base else {
-            return None;
-        };
-        let at = self.index_of(object)?;
-        self.live[at].cells.range(offset, width)
-    }
-
-    fn index_of(&self, number: u64) -> Option<usize>
-        ensures { MatchOption result (found self.now.live number ≡ None)
-            (λ at. IsAt self.now.live number at) }
-    {
-        match self.live.binary_search_by_key(&number, |a| a.number) {
-            Ok(at) => Some(at),
-            Err(_) => None,
-        }
-    }
-
     /// Writes a value; a constant object is refused where `protect` holds.
+    #[inline(always)]
     fn write(
         &mut self,
         protect: bool,
@@ -237,31 +235,15 @@ impl Memory {
         ensures elsewhere { OnOk result
             (ChangesOnlyRange self.old self.new (Base.Object number) offset width) }
     {
-        let Some(at) = self.index_of(number) else {
+        let Some(at) = index_of(&self.objects, number) else {
             return Err(MemError::Access);
         };
-        let allocation = &mut self.live[at];
-        if !allocation.accepts(protect, offset, width) {
+        let object = self.objects[at];
+        if !object.may_write(protect, offset, width) {
             return Err(MemError::Access);
         }
-        let cells = encode(value);
-        allocation
-            .cells
-            .write(offset as usize, &cells[..width as usize]);
+        self.cells
+            .write(object.start + offset as usize, width, value);
         Ok(())
     }
-}
-
-ghost use Rattle.ir_memory.specs.Memory.{live_cells as cells_of_list};
-
-/// How many cells the objects count as.
-fn counted_cells(live: &[Allocation]) -> u64
-    requires { cells_of_list live.now ≤ CELL_LIMIT }
-    ensures { result ≡ cells_of_list live.now }
-{
-    let mut all = 0;
-    for a in live {
-        all += (a.cells.len() as u64).max(1);
-    }
-    all
 }

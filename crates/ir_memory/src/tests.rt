@@ -1,5 +1,5 @@
 //! Cases worked out by hand.
-use crate::{Base, CELL_LIMIT, MemError, Memory, Value, address};
+use crate::{Base, CELL_LIMIT, Image, MemError, Memory, Value, address};
 use std::test::Fail;
 
 const NULL: Value = Value::Pointer {
@@ -139,5 +139,49 @@ fn live_cells_are_counted(rt: HostRuntime) -> Result<(), Fail> {
     assert_eq!(rt; memory.make(0, false), Err(MemError::Cells));
     memory.drop_from(1);
     assert_eq!(rt; memory.make(1, false)?, 2);
+    Ok(())
+}
+
+#[test]
+fn images_keep_their_pointers_behind_other_objects(rt: HostRuntime) -> Result<(), Fail> {
+    let mut image = Image::new(rt.alloc());
+    image.push(4, Value::Int(0x1234_5678))?;
+    image.push(8, FUNCTION)?;
+    image.push_zeros(3)?;
+    image.push_bytes(b"abc")?;
+    let mut memory = Memory::new(rt.alloc());
+    let first = Base::Object(memory.make(5, false)?);
+    memory.make_of(&image, true)?;
+    let second = Base::Object(1);
+    assert_eq!(rt;
+        memory.load(second, 0, 4, false),
+        Ok(Value::Int(0x1234_5678))
+    );
+    assert_eq!(rt; memory.load(second, 4, 8, true), Ok(FUNCTION));
+    assert_eq!(rt; memory.load(second, 12, 3, false), Ok(Value::Int(0)));
+    // the bytes 97, 98, 99
+    assert_eq!(rt;
+        memory.load(second, 15, 3, false),
+        Ok(Value::Int(6_513_249))
+    );
+    assert_eq!(rt; memory.load(second, 15, 4, false), Err(MemError::Access));
+    assert_eq!(rt; memory.load(first, 0, 5, false), Ok(Value::Int(0)));
+    Ok(())
+}
+
+#[test]
+fn ended_objects_leave_nothing_behind(rt: HostRuntime) -> Result<(), Fail> {
+    let mut memory = Memory::new(rt.alloc());
+    let first = memory.make(8, false)?;
+    let second = memory.make(8, false)?;
+    memory.store(Base::Object(second), 0, 8, FUNCTION)?;
+    memory.drop_from(second);
+    memory.drop_from(second);
+    let third = memory.make(8, false)?;
+    assert_eq!(rt; [first, second, third], [0, 1, 2]);
+    assert_eq!(rt; memory.load(Base::Object(third), 0, 8, true), Ok(NULL));
+    memory.store(Base::Object(third), 0, 8, FUNCTION)?;
+    assert_eq!(rt; memory.load(Base::Object(third), 0, 8, true), Ok(FUNCTION));
+    assert_eq!(rt; memory.load(Base::Object(first), 0, 8, true), Ok(NULL));
     Ok(())
 }

@@ -1,6 +1,6 @@
 -- The walks of a call that returns are a flow: each frame was entered once, stands in one block at a time, and is left
 -- once.
-use Rattle.std.proofs.Common.{◌≡◌, ℕ, zero, suc, ◌+◌, ◌==◌, Bool, true, false, cond, List, [], ◌∷◌, ◌++◌, length, map, drop, Option, Some, None, refl, sym, ◌∙◌, ap, subst, arith, append_assoc}
+use Rattle.std.proofs.Common.{◌≡◌, ℕ, zero, suc, ◌+◌, ◌==◌, Bool, true, false, cond, List, [], ◌∷◌, ◌++◌, length, map, drop, Option, Some, None, refl, sym, ◌∙◌, ap, subst, arith}
 use Rattle.std.specs.Prelude.{◌&&◌, nat_le, nat_lt, slice_get, option_and_then}
 use Rattle.std.specs.List.{count_by}
 use Rattle.std.specs.Option.{option_map}
@@ -22,14 +22,14 @@ use Rattle.ir_memory.specs.declared.value.Value.{Value}
 use Rattle.ir_memory.specs.declared.value.Value.TheVariants.{Int}
 use Rattle.ir_model.specs.declared.result.TrapKind.TheVariants as trap
 use Rattle.ir_model.specs.declared.result.Call.{Call}
-use Rattle.spec_machines.specs.Machine.{Goes, Stops, Ran, Open, Ended, shown_first, go_on, run}
+use Rattle.spec_machines.specs.Machine.{Goes, Stops, go_on, run}
 use Rattle.ir_model.specs.Deed.{Deed, Gives, Calls, Fails, deed, choice, case_position}
 use Rattle.ir_model.specs.Initial.{initial_memory}
-use Rattle.ir_model.specs.State.{Frame, Shared, State, What, Shown, Did, Targeted, Printed, Entered, Walked, Stop, Returns, Traps, arguments}
-use Rattle.ir_model.specs.Step.{Step, fails, goes_to, past, waiting, entering, resumed, ended, phis_in, line_of, output_most, depth_most, with_result, targeted, prints, prints_first, marks_lifetime, declared, entered, called, call_at, fits, acted, walked, returned, left, done, done_in, stepped, sought, step, value_of}
-use Rattle.ir_model.specs.Run.{run_of, at_first, first_entered, begun}
-use Rattle.ir_model.specs.Log.{Walk, Into, Out, log, logged, log_of, first_label, successor, target, same_block, comes_from, leads_to, AreBalanced, HasReturned}
-use Rattle.ir_model.specs.LogLaws.{log-append, log_behind, log_deeds, log_first, log_targeted, log_text, returned_later}
+use Rattle.ir_model.specs.State.{Frame, Shared, State, Shown, Did, Printed, Entered, Returns, Traps, arguments}
+use Rattle.ir_model.specs.Step.{Step, fails, goes_to, past, waiting, entering, resumed, phis_in, line_of, output_most, depth_most, targeted, prints_first, marks_lifetime, declared, entered, called, call_at, fits, acted, walked, returned, left, done, done_in, stepped, sought, step, value_of}
+use Rattle.ir_model.specs.Run.{run_of, first_entered, begun}
+use Rattle.ir_model.specs.Log.{Walk, Into, Out, log, log_of, first_label, successor, target, same_block, comes_from, leads_to, AreBalanced, HasReturned}
+use Rattle.ir_model.specs.LogLaws.{log_behind, log_deeds, log_first, log_targeted, log_text, returned_later}
 use Rattle.ir_model.specs.Values.{at_type, function_at_address, functions_of, number_at}
 
 and_false : (a : Bool) → a && false ≡ false

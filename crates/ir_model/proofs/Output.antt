@@ -18,8 +18,8 @@ use Rattle.ir_memory.specs.declared.value.Value.{Value}
 use Rattle.ir_model.specs.declared.result.TrapKind.TheVariants as trap
 use Rattle.spec_machines.specs.Machine.{Goes, Stops, Ran, Open, Ended, shown_first, shown_of, go_on, run}
 use Rattle.ir_model.specs.Deed.{Deed, Gives, Calls, Fails, deed, Choice, Takes, Leaves, Breaks, choice}
-use Rattle.ir_model.specs.State.{Frame, Shared, State, What, Shown, Did, Targeted, Printed, Entered, Walked, printed, printed_one, Stop, arguments}
-use Rattle.ir_model.specs.Step.{Step, fails, goes_to, past, waiting, line_of, output_most, depth_most, targeted, prints_first, marks_lifetime, declared, entered, called, call_at, fits, acted, walked, returned, left, done, done_in, stepped, sought, step, value_of}
+use Rattle.ir_model.specs.State.{Frame, Shared, State, What, Shown, Did, Printed, Entered, printed, printed_one, Stop, arguments}
+use Rattle.ir_model.specs.Step.{Step, fails, goes_to, past, waiting, line_of, output_most, depth_most, targeted, prints_first, marks_lifetime, entered, called, call_at, fits, acted, walked, returned, left, done, done_in, stepped, sought, step, value_of}
 use Rattle.ir_model.specs.Run.{first_entered, begun}
 use Rattle.ir_model.specs.Values.{function_at_address, functions_of, number_at}
 

@@ -1,7 +1,7 @@
 -- A select sees its condition once for each time that its block is entered, in a run that returns: a frame that stands in
 -- the block at the select or before it owes one look.
 use Rattle.std.proofs.Common.{◌≡◌, ℕ, zero, suc, ◌+◌, ◌==◌, Bool, true, false, cond, List, [], ◌∷◌, ◌++◌, length, map, drop, Option, Some, None, refl, sym, ◌∙◌, ap, ap₂, subst, arith, eqb-true}
-use Rattle.std.specs.Prelude.{◌&&◌, ◌<◌, ◌≤◌, nat_le, nat_lt, not, slice_get, option_and_then}
+use Rattle.std.specs.Prelude.{◌&&◌, ◌<◌, nat_le, nat_lt, not, slice_get, option_and_then}
 use Rattle.std.specs.Cmp.Lexicographic.{bytes_decides}
 use Rattle.std.specs.List.{count_by}
 use Rattle.std.proofs.lemmas.List.Sums.{sum_by-cons, sum_by-append}
@@ -30,8 +30,8 @@ use Rattle.ir_model.specs.declared.result.Call.{Call}
 use Rattle.spec_machines.specs.Machine.{Goes, Stops, Ran, Open, Ended, shown_first, shown_of, go_on, run}
 use Rattle.ir_model.specs.Deed.{Deed, Gives, Calls, Fails, deed, Choice, Takes, Leaves, Breaks, choice}
 use Rattle.ir_model.specs.Initial.{initial_memory}
-use Rattle.ir_model.specs.State.{Frame, Shared, State, What, Added, Noted, Chose, Shown, Did, Targeted, Printed, Entered, Walked, Stop, Returns, Traps, arguments}
-use Rattle.ir_model.specs.Step.{Step, fails, goes_to, past, waiting, entering, resumed, phis_in, line_of, output_most, depth_most, targeted, prints_first, marks_lifetime, declared, entered, called, call_at, fits, acted, walked, returned, left, done, done_in, stepped, sought, step, value_of}
+use Rattle.ir_model.specs.State.{Frame, Shared, State, What, Chose, Shown, Did, Printed, Entered, Walked, Stop, Returns, Traps, arguments}
+use Rattle.ir_model.specs.Step.{Step, fails, goes_to, past, waiting, entering, resumed, phis_in, line_of, output_most, depth_most, targeted, prints_first, marks_lifetime, entered, called, call_at, fits, acted, walked, returned, left, done, done_in, stepped, sought, step, value_of}
 use Rattle.ir_model.specs.Run.{run_of, first_entered, begun}
 use Rattle.ir_model.specs.Log.{Walk, Into, Out, log, log_of, first_label, successor, target, same_block, leads_to, HasReturned}
 use Rattle.ir_model.specs.LogLaws.{log-append, log_behind, log_deeds, log_targeted, log_text, returned_later}

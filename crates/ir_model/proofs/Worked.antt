@@ -1,6 +1,6 @@
 -- The modules of the examples at work: a result for each kind of instruction, and each trap that takes few steps. Values are
 -- computed by hand from the LLVM Language Reference.
-use Rattle.std.proofs.Common.{◌≡◌, ℕ, List, [], ◌∷◌, Some, None, true, false, refl}
+use Rattle.std.proofs.Common.{◌≡◌, [], ◌∷◌, Some, None, true, refl}
 use Rattle.std.specs.Prelude.{codes, ◌^◌}
 use Rattle.ir_tree.specs.Functions.{print_name, is_profile_name}
 use Rattle.ir_tree.specs.declared.types.Ty.TheVariants.{I1, I8, I16, I32, I64, Ptr}
@@ -13,7 +13,7 @@ use Rattle.ir_tree.specs.declared.types.Init.TheVariants as init
 use Rattle.ir_tree.specs.declared.types.Global1.{Global1}
 use Rattle.ir_tree.specs.declared.types.Operand.TheVariants.{Int, Null, Local, Global}
 use Rattle.ir_tree.specs.declared.types.Instr.TheVariants.{Compare, Freeze, Select, Alloca, Load, Store, Call}
-use Rattle.ir_tree.specs.declared.types.Term.TheVariants.{Br, CondBr, Switch, Ret, Unreachable}
+use Rattle.ir_tree.specs.declared.types.Term.TheVariants.{Switch, Ret, Unreachable}
 use Rattle.ir_tree.specs.Blocks.{block_with}
 use Rattle.ir_model.specs.declared.result.End.TheVariants.{Returned, Trapped, StepsSpent}
 use Rattle.ir_model.specs.declared.result.TrapKind.TheVariants as trap

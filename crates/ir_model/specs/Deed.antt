@@ -1,7 +1,7 @@
 -- What an instruction and a terminator mean (LLVM Language Reference, "Instruction Reference"), given what their operands
 -- are worth, how many functions there are, and the memory. In a module that the checker accepts each operand has the type
 -- of its place; elsewhere it is read at that type.
-use Rattle.std.specs.Prelude.{ℕ, ◌+◌, ◌*◌, ◌-◌, ◌/◌, ◌%◌, ◌==◌, nat_le, max, Bool, true, false, ◌&&◌, if◌then◌else◌, ℤ, pos, ◌+ℤ◌, ◌*ℤ◌, List, [], ◌∷◌, map, drop, position, codes, Option, Some, None, Result, Ok, Err}
+use Rattle.std.specs.Prelude.{ℕ, ◌+◌, ◌==◌, nat_le, max, Bool, true, false, if◌then◌else◌, ℤ, pos, ◌+ℤ◌, ◌*ℤ◌, List, [], ◌∷◌, map, drop, position, codes, Option, Some, None, Result, Ok, Err}
 use Rattle.std.specs.Option.{option_map}
 use Rattle.ir_tree.specs.Functions.{is_profile_name}
 use Rattle.ir_tree.specs.Names.{same}

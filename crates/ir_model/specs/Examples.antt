@@ -6,17 +6,16 @@
 --     }
 --
 -- of one block with these instructions, and on one that prints.
-use Rattle.std.specs.Prelude.{ℕ, List, [], ◌∷◌, Option, Some, None, false, codes}
+use Rattle.std.specs.Prelude.{ℕ, List, [], ◌∷◌, Some, None, false, codes}
 use Rattle.ir_tree.specs.declared.types.Ty.{Ty}
 use Rattle.ir_tree.specs.declared.types.Ty.TheVariants.{I64}
 use Rattle.ir_tree.specs.declared.types.Ret.TheVariants as ret
 use Rattle.ir_tree.specs.declared.types.BinOp.{BinOp}
 use Rattle.ir_tree.specs.declared.types.ConvOp.{ConvOp}
 use Rattle.ir_tree.specs.declared.types.Flags.{Flags}
-use Rattle.ir_tree.specs.declared.types.Operand.{Operand}
-use Rattle.ir_tree.specs.declared.types.Operand.TheVariants.{Int, Local, Global}
+use Rattle.ir_tree.specs.declared.types.Operand.TheVariants.{Int, Local}
 use Rattle.ir_tree.specs.declared.types.Instr.{Instr}
-use Rattle.ir_tree.specs.declared.types.Instr.TheVariants.{Binary, Convert, Call}
+use Rattle.ir_tree.specs.declared.types.Instr.TheVariants.{Binary, Convert}
 use Rattle.ir_tree.specs.declared.types.Term.{Term}
 use Rattle.ir_tree.specs.declared.types.Term.TheVariants.{Ret}
 use Rattle.ir_tree.specs.declared.types.Global1.{Global1}
@@ -25,7 +24,6 @@ use Rattle.ir_tree.specs.declared.types.Function.{Function}
 use Rattle.ir_tree.specs.declared.types.Module.{Module}
 use Rattle.ir_tree.specs.Blocks.{block_with}
 use Rattle.ir_model.specs.declared.result.End.{End}
-use Rattle.ir_model.specs.declared.result.CallResult.{CallResult}
 use Rattle.ir_model.specs.Run.{run_of, result_of}
 
 abbrev pub no_flags : Flags

@@ -8,8 +8,7 @@ use Rattle.ir_tree.specs.declared.types.Module.{Module}
 use Rattle.ir_tree.specs.declared.types.Ty.{Ty}
 use Rattle.ir_memory.specs.Cell.{Cell, Byte}
 use Rattle.ir_memory.specs.Contents.{cells_of}
-use Rattle.ir_memory.specs.Memory.{MemoryState}
-use Rattle.ir_memory.specs.declared.allocation.Allocation.{Allocation}
+use Rattle.ir_memory.specs.Memory.{Allocation, MemoryState}
 use Rattle.ir_memory.specs.declared.value.Base.TheVariants.{Null}
 use Rattle.ir_memory.specs.declared.value.Value.{Value}
 use Rattle.ir_memory.specs.declared.value.Value.TheVariants.{Int, Pointer}

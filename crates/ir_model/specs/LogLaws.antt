@@ -2,7 +2,7 @@
 use Rattle.std.proofs.Common.{◌≡◌, ℕ, Bool, true, false, List, [], ◌∷◌, ◌++◌, map, refl, sym, ◌∙◌, ap, append_assoc}
 use Rattle.spec_machines.specs.Machine.{Ran, Open, Ended, shown_first}
 use Rattle.ir_model.specs.Log.{HasReturned, Walk, log, log_of, logged}
-use Rattle.ir_model.specs.State.{Frame, What, Shown, Did, Targeted, Printed, Entered, Walked, Stop, Returns, Traps}
+use Rattle.ir_model.specs.State.{Frame, What, Shown, Did, Printed, Stop, Returns, Traps}
 use Rattle.ir_model.specs.Step.{targeted}
 
 pub log-append : (xs ys : List Shown) → log (xs ++ ys) ≡ log xs ++ log ys

@@ -1,5 +1,5 @@
 -- What a select sees, and when it stands in a block.
-use Rattle.std.specs.Prelude.{◌≡◌, ℕ, ◌+◌, ◌==◌, List, Option, Some, Bool, true, false, not, ◌&&◌, slice_get}
+use Rattle.std.specs.Prelude.{◌≡◌, ℕ, ◌==◌, List, Some, Bool, true, false, not, ◌&&◌, slice_get}
 use Rattle.std.specs.List.{count_by}
 use Rattle.ir_tree.specs.Graphs.{is_select}
 use Rattle.ir_tree.specs.Names.{same}

@@ -14,7 +14,7 @@ use Rattle.ir_tree.specs.Phis.{entries_of, leading_phis, behind_phis, value_for}
 use Rattle.ir_tree.specs.Successors.{successors}
 use Rattle.ir_tree.specs.Types.{value_of_ret, width_of}
 use Rattle.ir_value.specs.Integer.{signed_of}
-use Rattle.ir_memory.specs.Memory.{MemoryState, dropped}
+use Rattle.ir_memory.specs.Memory.{dropped}
 use Rattle.ir_memory.specs.declared.value.Base.TheVariants.{Null}
 use Rattle.ir_memory.specs.declared.value.Value.{Value}
 use Rattle.ir_memory.specs.declared.value.Value.TheVariants as value
@@ -33,7 +33,7 @@ use Rattle.ir_model.specs.declared.result.TrapKind.{TrapKind}
 use Rattle.ir_model.specs.declared.result.TrapKind.TheVariants as trap
 use Rattle.spec_machines.specs.Machine.{Next, Goes, Stops}
 use Rattle.ir_model.specs.Deed.{Deed, Gives, Calls, Fails, deed, Choice, Takes, Leaves, Breaks, choice}
-use Rattle.ir_model.specs.State.{Registers, held, arguments, Frame, Shared, State, What, Shown, Did, Targeted, Printed, Entered, Walked, Stop, Returns, Traps}
+use Rattle.ir_model.specs.State.{Registers, held, arguments, Frame, Shared, State, Shown, Did, Targeted, Printed, Entered, Walked, Stop, Returns, Traps}
 use Rattle.ir_model.specs.Values.{as_number, at_type, function_at_address, functions_of, number_at, symbol_value}
 
 -- what an operand is worth

@@ -1,5 +1,5 @@
 -- Values at the types of their places, and what the names of a module stand for.
-use Rattle.std.specs.Prelude.{ℕ, ◌+◌, ◌*◌, ◌-◌, ◌/◌, ◌%◌, ◌^◌, ◌==◌, ◌||◌, ◌&&◌, nat_lt, Bool, not, if◌then◌else◌, List, filter, map, position, codes, length, Option, Some, None, unwrap_or}
+use Rattle.std.specs.Prelude.{ℕ, ◌+◌, ◌-◌, ◌/◌, ◌%◌, ◌==◌, ◌||◌, ◌&&◌, nat_lt, Bool, not, if◌then◌else◌, List, filter, map, position, codes, length, Option, Some, None, unwrap_or}
 use Rattle.ir_tree.specs.Functions.{begins_with, function_number, numbered}
 use Rattle.ir_tree.specs.Names.{same}
 use Rattle.ir_tree.specs.Types.{width_of}

@@ -1,4 +1,4 @@
-use Rattle.std.proofs.Common.{◌≡◌, ◌++◌, map, filter, sym, ap, ◌∙◌, subst, List}
+use Rattle.std.proofs.Common.{map, filter, ap, ◌∙◌, subst, List}
 use Rattle.ir_tree.specs.Names.{Indexes}
 use Rattle.ir_tree.specs.Functions.{numbered}
 use Rattle.ir_tree.specs.declared.types.Function.{Function}

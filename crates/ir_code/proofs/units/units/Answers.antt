@@ -1,5 +1,4 @@
-use Rattle.std.proofs.Common.{◌≡◌, List, [], ◌∷◌, ◌++◌, ◌+◌, take, sym, ap, ◌∙◌, subst}
-use Rattle.std.proofs.lemmas.List.{take_more}
+use Rattle.std.proofs.Common.{◌≡◌, List, [], ◌∷◌, ◌++◌, ◌+◌, take, sym, subst}
 use Rattle.ir_tree.specs.declared.types.Global1.{Global1}
 use Rattle.ir_code.specs.Tallied.{AreTallied}
 use Rattle.ir_code.proofs.Numbered.{next}

@@ -1,5 +1,3 @@
-use Rattle.std.proofs.Common.{◌≡◌}
-use Rattle.std.specs.Prelude.{Ok, Err}
 use Rattle.ir_machine.proofs.Giving.{allocates}
 use Rattle.ir_machine.proofs.deeds.allocate.Goals as goal
 

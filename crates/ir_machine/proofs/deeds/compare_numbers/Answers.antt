@@ -8,7 +8,7 @@ use Rattle.ir_machine.proofs.deeds.compare_numbers.Goals as goal
 
 pub returns : goal.returns
 returns c =
-    let there = compare_of c.args.pred (bits_of c.args.ty) (number_at c.args.ty (input_value c.args.machine.now.top.registers c.args.left)) (number_at c.args.ty (input_value c.args.machine.now.top.registers c.args.right)) in
+    let there = compare_of c.args.pred (bits_of c.args.ty) (number_at c.args.ty (input_value c.args.machine.now.top.registers c.args.left.now)) (number_at c.args.ty (input_value c.args.machine.now.top.registers c.args.right.now)) in
     let holds : c.compare-holds.result ≡ there =
     c.compare-holds.ensures ∙ (λ i. compare_of c.args.pred (c.bits_of.ensures.value i) (c.number_in-left.ensures.value i) (c.number_in-right.ensures.value i)) in
     gives c.args.machine.now c.give.new.machine c.args.into c.give.result (Int c.from.result) (Int (cond there 1 0)) (ap Int (byte_is c.from.result c.compare-holds.result there c.from.ensures holds)) c.give.ensures

@@ -6,4 +6,4 @@ use Rattle.ir_machine.proofs.deeds.freeze.Goals as goal
 
 pub returns : goal.returns
 returns c =
-    gives c.args.machine.now c.give.new.machine c.args.into c.give.result c.at_type-value.result (at_type c.args.ty (input_value c.args.machine.now.top.registers c.args.input)) (c.at_type-value.ensures.value ∙ ap (at_type c.args.ty) c.value_in.ensures) c.give.ensures
+    gives c.args.machine.now c.give.new.machine c.args.into c.give.result c.typed_value_of-value.result (at_type c.args.ty (input_value c.args.machine.now.top.registers c.args.input.now)) (c.typed_value_of-value.ensures ∙ ap (λ rs. at_type c.args.ty (input_value rs c.args.input.now)) c.as_slice.ensures) c.give.ensures

@@ -3,7 +3,7 @@ use Rattle.std.specs.Prelude.{Ok}
 use Rattle.ir_tree.specs.Types.{is_pointer_type}
 use Rattle.ir_memory.specs.Memory.{loaded}
 use Rattle.ir_model.specs.Sizes.{bytes_of}
-use Rattle.ir_model.specs.Values.{at_type, base_of, offset_of}
+use Rattle.ir_model.specs.Values.{base_of, offset_of}
 use Rattle.ir_machine.specs.Steps.{Gives, input_value, read_as}
 use Rattle.ir_machine.proofs.Giving.{does}
 use Rattle.ir_machine.proofs.deeds.load.Goals as goal
@@ -11,7 +11,7 @@ use Rattle.ir_machine.proofs.deeds.load.Goals as goal
 pub returns-in-Ok : goal.returns-in-Ok
 returns-in-Ok c =
     let memory = c.args.machine.now.memory in
-    let address = input_value c.args.machine.now.top.registers c.args.address in
+    let address = input_value c.args.machine.now.top.registers c.args.address.now in
     let there = loaded memory (base_of address) (offset_of address) (bytes_of c.args.ty) (is_pointer_type c.args.ty) in
     let found : Ok c.in-Ok.value ≡ there =
     c.in-Ok.ensures.value

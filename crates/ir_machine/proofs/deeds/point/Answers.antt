@@ -11,7 +11,7 @@ use Rattle.ir_machine.proofs.deeds.point.Goals as goal
 pub returns : goal.returns
 returns c =
     let registers = c.args.machine.now.top.registers in
-    let address = input_value registers c.args.address in
+    let address = input_value registers c.args.address.now in
     let offset : c.travel-offset.result ≡ wrapped 64 (pos (offset_of address) +ℤ distance registers c.args.indices.now) =
     c.travel-offset.ensures
     ∙ (λ i. wrapped 64 (pos ((c.offset_of.ensures ∙ ap offset_of c.value_in-address.ensures) i) +ℤ distance (c.as_slice-registers.ensures i) c.args.indices.now)) in

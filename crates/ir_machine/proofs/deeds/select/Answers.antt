@@ -10,9 +10,9 @@ use Rattle.ir_machine.proofs.deeds.select.Goals.{then-number_in-eq0, else-number
 
 pub returns : goal.returns
 returns c =
-    let no : Value = input_value c.args.machine.now.top.registers c.args.no in
-    let yes : Value = input_value c.args.machine.now.top.registers c.args.yes in
-    let test : Bool = number_at I1 (input_value c.args.machine.now.top.registers c.args.cond) == 0 in
+    let no : Value = input_value c.args.machine.now.top.registers c.args.no.now in
+    let yes : Value = input_value c.args.machine.now.top.registers c.args.yes.now in
+    let test : Bool = number_at I1 (input_value c.args.machine.now.top.registers c.args.cond.now) == 0 in
     let same : (c.number_in.result == 0) ≡ test = ap (λ n. n == 0) c.number_in.ensures.value in
     let chosen : c.if-number_in-eq0.chosen ≡ cond test no yes =
     elim c.if-number_in-eq0.branch [

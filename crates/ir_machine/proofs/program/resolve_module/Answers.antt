@@ -1,4 +1,4 @@
-use Rattle.std.proofs.Common.{◌≡◌, ◌∙◌, List, map, ap}
+use Rattle.std.proofs.Common.{◌∙◌, List, map, ap}
 use Rattle.std.specs.Prelude.{sum_by}
 use Rattle.ir_tree.specs.Edges.{edges_in}
 use Rattle.ir_tree.specs.Functions.{numbered}
