@@ -1,6 +1,5 @@
 -- Records and modes of inputs.
-use Rattle.std.proofs.Common.{◌≡◌, ◌+◌, ◌<◌, ℕ, zero, suc, Bool, true, false, cond, List, [], ◌∷◌, ◌++◌, Option, Some, None, Result, Ok, Err, IfNone, IfErr, length, map, min, filter, take, sum_by, get_or, slice_get, refl, sym, ap, ◌∙◌, subst, arith, append-nil, append_assoc, All}
-use Rattle.std.specs.Ordering.{is_eq}
+use Rattle.std.proofs.Common.{◌≡◌, ◌+◌, ◌<◌, ℕ, zero, suc, Bool, true, false, cond, List, [], ◌∷◌, ◌++◌, Option, Some, None, Result, Ok, Err, IfNone, IfErr, length, min, take, sum_by, get_or, slice_get, refl, sym, ap, ◌∙◌, subst, arith, append-nil, append_assoc}
 use Rattle.std.specs.List.{AllZip, flat_map}
 use Rattle.std.proofs.lemmas.List.{take_more}
 use Rattle.std.proofs.lemmas.Option.{slice_get_within, get_or_from_slice_get}
@@ -8,7 +7,7 @@ use Rattle.std.proofs.lemmas.List.Elements.{filter-append}
 use Rattle.std.proofs.lemmas.List.Concat.{flat_map-append}
 use Rattle.std.proofs.lemmas.List.Sums.{sum_by_push}
 use Rattle.prof_view.specs.Profile.{ProfileRecord, ProfileInput}
-use Rattle.prof_text.specs.Merged.{Key, key_cmp, key_of, has_key, of_key, capped, most}
+use Rattle.prof_text.specs.Merged.{Key, key_of, has_key, of_key, capped, most}
 use Rattle.prof_text.specs.Mismatch.{IsMismatch}
 use Rattle.prof_text.specs.Gathered.{Gathers, IsTallyAt, with_records}
 use Rattle.prof_text.specs.declared.gathered.Gathered.{Gathered}

@@ -1,5 +1,5 @@
 -- What it is to merge profiles.
-use Rattle.std.specs.Prelude.{◌≡◌, ◌<◌, ℕ, Bool, true, false, not, List, [], ◌∷◌, Option, Some, length, map, slice_get, All}
+use Rattle.std.specs.Prelude.{◌≡◌, ◌<◌, ℕ, Bool, not, List, Some, map, slice_get, All}
 use Rattle.std.specs.List.{flat_map}
 use Rattle.prof_view.specs.Profile.{ProfileRecord, ProfileInput}
 use Rattle.prof_text.specs.Merged.{IsMerged}

@@ -1,5 +1,5 @@
 -- The text that shows a profile's totals.
-use Rattle.std.specs.Prelude.{◌≡◌, ℕ, List, ◌++◌, length, fold, max, sum, sum_by, codes, decimal}
+use Rattle.std.specs.Prelude.{ℕ, List, ◌++◌, length, fold, max, sum, sum_by, codes, decimal}
 use Rattle.std.specs.List.{flat_map}
 use Rattle.prof_view.specs.Profile.{ProfileRecord, ProfileInput}
 use Rattle.prof_text.specs.Merged.{Target, capped}

@@ -3,27 +3,27 @@ ghost use Rattle.std.specs.Prelude.{◌≡◌, ◌++◌, ◌∷◌, ◌<◌, [],
 ghost use Rattle.std.specs.List.{AllZip};
 ghost use Rattle.rayon.specs.Lists.{chunks_of};
 ghost use Rattle.prof_view.specs.Profile.{ProfileRecord};
-ghost use Rattle.prof_text.specs.Merged.{Key, of_key};
+ghost use Rattle.prof_text.specs.Merged.{Key, key_of, of_key};
 ghost use Rattle.prof_text.specs.Site.{targets_of, sites_of};
-ghost use Rattle.prof_text.specs.Tally.{Tallies};
-ghost use Rattle.prof_text.specs.Gathered.{Gathers};
+ghost use Rattle.prof_text.specs.Gathered.{Gathers, with_records};
 ghost use Rattle.prof_merge.specs.Parts.{GathersInputs};
 
 use pgo_base::NoMemory;
-use prof_text::{Gathered, Tally};
+use prof_text::Gathered;
 use prof_view::{CounterLines, ProfileView, RecordView, SiteLines, SiteView};
 use rayon::prelude::*;
 use std::alloc::{AllocError, Global};
 use std::thread::Threads;
 
-fn counters_read(alloc: Global, lines: CounterLines<'_>) -> Result<Vec<u64>, NoMemory>
-    ensures { IfOk result (λ v. v.items ≡ lines.entry) }
+// Reads the counters, in the place of those that are there.
+fn read_counters(lines: CounterLines<'_>, counters: &mut Vec<u64>) -> Result<(), NoMemory>
+    ensures { OnOk result (counters.new.items ≡ lines.entry) }
 {
-    let mut counters = Vec::with_capacity(alloc, lines.at_most())?;
+    counters.clear();
     for counter in lines {
         counters.push(counter)?;
     }
-    Ok(counters)
+    Ok(())
 }
 
 fn targets_read<'a>(alloc: Global, site: &SiteView<'a>) -> Result<Vec<(&'a [u8], u64)>, NoMemory>
@@ -49,25 +49,36 @@ fn sites_read<'a>(
     Ok(sites)
 }
 
-fn tally_of<'a>(alloc: Global, view: &RecordView<'a>) -> Result<Tally<'a>, NoMemory>
-    ensures { IfOk result (λ t. Tallies t (view.now ∷ [])) }
+// Puts a record behind those of its key. The counters are read into a list that each record takes anew.
+fn put_record<'a>(
+    alloc: Global,
+    gathered: &mut Gathered<'a>,
+    viewed: &RecordView<'a>,
+    counters: &mut Vec<u64>,
+) -> Result<(), NoMemory>
+    ensures { (f : Key → List ProfileRecord) → Gathers gathered.old f → OnOk result (Gathers gathered.new (with_records f (key_of viewed.now) (viewed.now ∷ []))) }
 {
-    let counters = counters_read(alloc, view.counters())?;
-    let sites = sites_read(alloc, view.sites())?;
-    Ok(Tally::of(counters, sites))
+    read_counters(viewed.counters(), counters)?;
+    let sites = sites_read(alloc, viewed.sites())?;
+    gathered.add(
+        alloc,
+        viewed.name(),
+        viewed.hash(),
+        counters.as_slice(),
+        sites,
+    )
 }
 
 fn put_view<'a>(
     alloc: Global,
     gathered: &mut Gathered<'a>,
     view: &ProfileView<'a>,
+    counters: &mut Vec<u64>,
 ) -> Result<(), NoMemory>
     ensures { (before : List ProfileRecord) → Gathers gathered.old (λ key. of_key key before) → OnOk result (Gathers gathered.new (λ key. of_key key (before ++ view.now.records))) }
 {
     for i in 0..view.len() {
-        let record = view.at(i);
-        let tally = tally_of(alloc, &record)?;
-        gathered.put(record.name(), record.hash(), tally)?;
+        put_record(alloc, gathered, &view.at(i), counters)?;
     }
     Ok(())
 }
@@ -77,8 +88,9 @@ fn part_of<'a>(alloc: Global, run: &[ProfileView<'a>]) -> Result<Gathered<'a>, N
     ensures { IfOk result (GathersInputs run.now) }
 {
     let mut gathered = Gathered::new(alloc);
+    let mut counters = Vec::new(alloc);
     for view in run {
-        put_view(alloc, &mut gathered, view)?;
+        put_view(alloc, &mut gathered, view, &mut counters)?;
     }
     Ok(gathered)
 }

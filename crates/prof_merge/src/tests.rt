@@ -43,6 +43,20 @@ fn sums_stop_at_the_largest_number(rt: HostRuntime) -> Result<(), Fail> {
 }
 
 #[test]
+fn functions_may_be_in_other_orders(rt: HostRuntime) -> Result<(), Fail> {
+    let alloc = rt.alloc();
+    let first = b":ir\ng\n2\n1\n10\nf\n1\n1\n20\nh\n3\n1\n30\n".as_slice();
+    let second = b":ir\nf\n1\n1\n1\nh\n3\n1\n2\nf\n1\n1\n4\ng\n9\n1\n8\n".as_slice();
+    let text =
+        b":ir\nf\n# Func Hash:\n1\n# Num Counters:\n1\n# Counter Values:\n25\n\ng\n# Func Hash:\n2\n# Num Counters:\n1\n# Counter Values:\n10\n\ng\n# Func Hash:\n9\n# Num Counters:\n1\n# Counter Values:\n8\n\nh\n# Func Hash:\n3\n# Num Counters:\n1\n# Counter Values:\n32\n\n".as_slice();
+    let profile = merged(&rt, alloc, first, second, 1)??;
+    assert_eq!(rt; write(alloc, &profile)?.as_slice(), text);
+    let profile = merged(&rt, alloc, second, first, 2)??;
+    assert_eq!(rt; write(alloc, &profile)?.as_slice(), text);
+    Ok(())
+}
+
+#[test]
 fn other_modes_name_the_input(rt: HostRuntime) -> Result<(), Fail> {
     let alloc = rt.alloc();
     let plain = b":ir\n".as_slice();

@@ -1,5 +1,5 @@
 -- The targets of each site, put behind those that it has.
-use Rattle.std.proofs.Common.{◌≡◌, ◌≢◌, ◌+◌, ◌<◌, ◌≤◌, ℕ, zero, suc, List, length, get_or, set, map, ◌++◌, ◌∷◌, [], sym, ap, ◌∙◌, subst, arith, refl, below_more, get_or-set_same, get_or-set_other}
+use Rattle.std.proofs.Common.{◌≡◌, ◌≢◌, ◌+◌, ◌<◌, ◌≤◌, ℕ, zero, suc, List, length, get_or, set, ◌++◌, ◌∷◌, [], sym, ap, ◌∙◌, subst, arith, below_more, get_or-set_same, get_or-set_other}
 use Rattle.std.specs.Borrow.{Bor}
 use Rattle.std.specs.Global.{Vec}
 use Rattle.std.proofs.lemmas.List.{map-set, map-append, length-map}

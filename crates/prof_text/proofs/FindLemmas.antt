@@ -1,6 +1,5 @@
 -- Where a search in two lists, one after the other, ends.
-use Rattle.std.proofs.Common.{◌≡◌, ◌≢◌, ℕ, Bool, true, false, cond, not, List, [], ◌∷◌, ◌++◌, Option, Some, None, find, eqb, is_some, slice_get, refl, sym, ap, ◌∙◌, subst}
-use Rattle.prof_text.specs.Mismatch.{differs_from}
+use Rattle.std.proofs.Common.{◌≡◌, ℕ, Bool, true, false, cond, List, [], ◌∷◌, ◌++◌, Option, Some, None, find, is_some, slice_get, refl, ap, ◌∙◌}
 
 module _ (p : ℕ → Bool) where
   step_front : (b : Bool) (n : ℕ) (o w : Option ℕ) → (is_some o ≡ true → w ≡ o) → is_some (cond b (Some n) o) ≡ true → cond b (Some n) w ≡ cond b (Some n) o

@@ -1,17 +1,17 @@
 -- Lists with the same sums have the same merge.
-use Rattle.std.proofs.Common.{◌≡◌, ◌==◌, ◌+◌, ◌<◌, ◌≤◌, ℕ, Bool, true, false, not, cond, List, [], ◌∷◌, ◌++◌, Option, Some, None, length, map, filter, find, min, sum_by, slice_index, slice_index_or, refl, sym, ap, ◌∙◌, subst, arith, Ordering, Less, Equal, Greater, eqb-true, eq-eqb, All, eqb}
+use Rattle.std.proofs.Common.{◌≡◌, ◌==◌, ◌+◌, ℕ, Bool, true, false, cond, List, [], ◌∷◌, Option, Some, None, length, map, filter, find, sum_by, refl, sym, ap, ◌∙◌, subst, arith, Ordering, Less, Equal, Greater, eqb-true, eq-eqb, All}
 use Rattle.std.specs.Ordering.{is_eq, ordering_reverse}
 use Rattle.std.specs.Option.{option_map}
 use Rattle.std.specs.List.{AllByRecursion, flat_map}
 use Rattle.std.specs.List.Sorted.{IsPermutation}
-use Rattle.std.proofs.lemmas.List.{ext_get_or, get_or_past}
+use Rattle.std.proofs.lemmas.List.{ext_get_or}
 use Rattle.std.proofs.lemmas.List.Sums.{sum_by-cons, sum_by-append}
 use Rattle.std.proofs.lemmas.List.Sorted.{sum_by-IsPermutation}
 use Rattle.std.proofs.lemmas.List.Elements.{filter_passes, recursion_from_All}
 use Rattle.std.proofs.lemmas.Cmp.{nat_list_cmp_total}
 use Rattle.prof_view.specs.Profile.{ProfileRecord}
 use Rattle.prof_text.specs.Merged.{Key, Target, key_cmp, key_of, has_key, of_key, name_cmp, of_name, capped, counter_at, site_at, targets_at, IsTotal, IsMergedSite, IsSumOf, IsMergedKey, IsMerged}
-use Rattle.prof_text.specs.Mismatch.{Fit, LesserFit, IsMismatch, differing, differs_from, counter_numbers, site_numbers}
+use Rattle.prof_text.specs.Mismatch.{Fit, LesserFit, IsMismatch, differing, differs_from}
 use Rattle.prof_text.specs.Order.{named_key, SameRecords}
 use Rattle.prof_text.specs.declared.error.MergeError.{MergeError}
 use Rattle.prof_text.specs.declared.error.MergeError.TheVariants.{CounterMismatch, SiteMismatch, HeaderMismatch, NoMemory}

@@ -1,5 +1,5 @@
 -- Running sums that are joined.
-use Rattle.std.proofs.Common.{is_some, true, false, Bool, not, cond, eqb-true, All, ◌==◌, ◌≡◌, ◌+◌, ◌<◌, ◌≤◌, ℕ, List, [], ◌∷◌, ◌++◌, Option, Some, None, length, map, min, find, sum_by, get_or, slice_get, slice_index, slice_index_or, refl, sym, ap, ◌∙◌, subst, arith}
+use Rattle.std.proofs.Common.{is_some, true, false, Bool, not, cond, eqb-true, All, ◌==◌, ◌≡◌, ◌+◌, ◌<◌, ℕ, List, [], ◌∷◌, ◌++◌, Option, Some, None, length, map, min, find, sum_by, slice_get, slice_index, slice_index_or, refl, sym, ap, ◌∙◌, subst, arith}
 use Rattle.std.specs.List.{AllByRecursion}
 use Rattle.std.specs.Option.{option_map}
 use Rattle.std.proofs.lemmas.List.{map-append}

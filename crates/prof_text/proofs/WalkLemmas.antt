@@ -1,27 +1,24 @@
 -- A walk over the entries of the map of tallies.
-use Rattle.std.proofs.Common.{◌≡◌, ℕ, Bool, true, false, cond, ◌||◌, List, [], ◌∷◌, ◌++◌, Option, Some, None, map, refl, sym, ap, ◌∙◌, subst, Ordering, Less, Equal, Greater, append-nil, append_assoc, filter, not, find, length, slice_get, eq-eqb}
+use Rattle.std.proofs.Common.{◌≡◌, ℕ, Bool, true, false, cond, ◌||◌, List, [], ◌∷◌, ◌++◌, Option, Some, None, map, refl, sym, ap, ◌∙◌, subst, Ordering, Less, Equal, Greater, append-nil, not, find, length, slice_get, eq-eqb}
 use Rattle.std.specs.Ordering.{is_eq}
 use Rattle.std.specs.Borrow.{Bor}
-use Rattle.std.specs.BTreeMap.{is_at}
 use Rattle.std.specs.Map.{lookup, keys_of}
-use Rattle.std.specs.List.{AllByRecursion, AllZip, list_any}
+use Rattle.std.specs.List.{AllByRecursion, AllZip, IsDistinct, list_any}
 use Rattle.std.specs.List.Sorted.{IsStrictlySortedBy}
 use Rattle.std.specs.Option.{option_map}
-use Rattle.std.specs.Cmp.{IsTotalOrder}
-use Rattle.std.proofs.lemmas.Cmp.{on_total}
 use Rattle.std.proofs.lemmas.Map.{lookup-none}
 use Rattle.std.proofs.lemmas.Map.Entries.{none_below_head}
 use Rattle.std.proofs.lemmas.Map.Keys.{sorted_head, sorted_tail}
 use Rattle.std.proofs.lemmas.List.Elements.{recursion_from_All}
 use Rattle.prof_view.specs.Profile.{ProfileRecord}
-use Rattle.prof_text.specs.Merged.{Key, key_cmp, key_of, has_key, of_key, IsMergedKey, IsMerged, IsSumOf}
+use Rattle.prof_text.specs.Merged.{Key, key_cmp, key_of, of_key, IsMergedKey, IsMerged, IsSumOf}
 use Rattle.prof_text.specs.Mismatch.{Fit, LesserFit, IsMismatch, differing, differs_from, counter_numbers, site_numbers}
 use Rattle.prof_text.specs.Tally.{Tallies, IsMisfit}
 use Rattle.prof_text.specs.declared.error.MergeError.{MergeError}
 use Rattle.prof_text.specs.declared.error.MergeError.TheVariants.{CounterMismatch, SiteMismatch, HeaderMismatch, NoMemory}
-use Rattle.prof_text.specs.Gathered.{plain_key, key_against, IsTallyAt, with_records}
+use Rattle.prof_text.specs.Gathered.{plain_key, borrowed_key_cmp, is_key, IsTallyAt, with_records}
 use Rattle.prof_text.specs.declared.tally.Tally.{Tally}
-use Rattle.prof_text.proofs.GatherLemmas.{borrowed, borrowed_key_cmp, borrowed_key_cmp_total, same_key, flip_key, key_itself}
+use Rattle.prof_text.proofs.GatherLemmas.{borrowed, borrowed_key_cmp_total, borrowed_key_eq, eq_is, same_key, flip_key, key_itself}
 
 abbrev pub Entry : Type 0
 Entry = (Bor (List ℕ) × ℕ) × Tally
@@ -67,26 +64,35 @@ apart_before (y ∷ ys) rest e sorted =
     let apart : is_eq (key_cmp (plain_key e.0) (plain_key y.0)) ≡ false = flip_key (plain_key e.0) (plain_key y.0) ∙ less_is_not_equal (key_cmp (plain_key y.0) (plain_key e.0)) below in
     ap (λ (b : Bool). b || is_among (plain_key e.0) ys) apart ∙ apart_before ys rest e (sorted_tail borrowed_key_cmp y.0 (keys_of (ys ++ e ∷ rest)) sorted)
 
+-- the same of entries whose keys differ
+pub apart_among : (ys rest : List Entry) (e : Entry) → IsDistinct borrowed_key_eq (keys_of (ys ++ e ∷ rest)) → is_among (plain_key e.0) ys ≡ false
+unfolding IsDistinct
+apart_among [] rest e distinct = refl
+apart_among (y ∷ ys) rest e distinct =
+    let other : borrowed_key_eq y.0 e.0 ≡ false = reach (λ k. borrowed_key_eq y.0 k ≡ false) ys rest e distinct.0 in
+    let apart : is_eq (key_cmp (plain_key e.0) (plain_key y.0)) ≡ false = flip_key (plain_key e.0) (plain_key y.0) ∙ (sym (eq_is y.0 e.0) ∙ other) in
+    ap (λ (b : Bool). b || is_among (plain_key e.0) ys) apart ∙ apart_among ys rest e distinct.1
+
 step_lookup : (b : Bool) (t : Tally) (o p : Option Tally) → b ≡ false → o ≡ p → cond b (Some t) o ≡ p
 step_lookup true t o p h e = cc
 step_lookup false t o p h e = e
 
 -- a look-up passes over entries that have not the key
-pub lookup_behind : (key : Key) (ys zs : List Entry) → is_among key ys ≡ false → lookup (is_at (key_against key)) (ys ++ zs) ≡ lookup (is_at (key_against key)) zs
+pub lookup_behind : (key : Key) (ys zs : List Entry) → is_among key ys ≡ false → lookup (is_key key) (ys ++ zs) ≡ lookup (is_key key) zs
 lookup_behind key [] zs h = refl
 lookup_behind key (y ∷ ys) zs h =
-    step_lookup (is_eq (key_cmp key (plain_key y.0))) y.1 (lookup (is_at (key_against key)) (ys ++ zs)) (lookup (is_at (key_against key)) zs)
+    step_lookup (is_eq (key_cmp key (plain_key y.0))) y.1 (lookup (is_key key) (ys ++ zs)) (lookup (is_key key) zs)
     (or_left (is_eq (key_cmp key (plain_key y.0))) (is_among key ys) h) (lookup_behind key ys zs (or_right (is_eq (key_cmp key (plain_key y.0))) (is_among key ys) h))
 
-pub lookup_here : (ys rest : List Entry) (e : Entry) → IsStrictlySortedBy borrowed_key_cmp (keys_of (ys ++ e ∷ rest)) → lookup (is_at (key_against (plain_key e.0))) (ys ++ e ∷ rest) ≡ Some e.1
-lookup_here ys rest e sorted =
-    lookup_behind (plain_key e.0) ys (e ∷ rest) (apart_before ys rest e sorted)
-    ∙ ap (λ (b : Bool). cond b (Some e.1) (lookup (is_at (key_against (plain_key e.0))) rest)) (key_itself (plain_key e.0))
+pub lookup_here : (ys rest : List Entry) (e : Entry) → is_among (plain_key e.0) ys ≡ false → lookup (is_key (plain_key e.0)) (ys ++ e ∷ rest) ≡ Some e.1
+lookup_here ys rest e apart =
+    lookup_behind (plain_key e.0) ys (e ∷ rest) apart
+    ∙ ap (λ (b : Bool). cond b (Some e.1) (lookup (is_key (plain_key e.0)) rest)) (key_itself (plain_key e.0))
 
 -- the tally of an entry is that of its key's records
-pub tally_here : (f : Key → List ProfileRecord) (ys rest : List Entry) (e : Entry) → IsStrictlySortedBy borrowed_key_cmp (keys_of (ys ++ e ∷ rest)) →
-    ((key : Key) → IsTallyAt (lookup (is_at (key_against key)) (ys ++ e ∷ rest)) (f key)) → Tallies e.1 (f (plain_key e.0))
-tally_here f ys rest e sorted gathers = subst (λ (o : Option Tally). IsTallyAt o (f (plain_key e.0))) (lookup_here ys rest e sorted) (gathers (plain_key e.0))
+pub tally_here : (f : Key → List ProfileRecord) (ys rest : List Entry) (e : Entry) → is_among (plain_key e.0) ys ≡ false →
+    ((key : Key) → IsTallyAt (lookup (is_key key) (ys ++ e ∷ rest)) (f key)) → Tallies e.1 (f (plain_key e.0))
+tally_here f ys rest e apart gathers = subst (λ (o : Option Tally). IsTallyAt o (f (plain_key e.0))) (lookup_here ys rest e apart) (gathers (plain_key e.0))
 
 -- ---- absorbing
 step_all : (b : Bool) (o : Option Tally) (records : List ProfileRecord) → (b ≡ false → o ≡ None) → IsTallyAt o records → cond b records [] ≡ records
@@ -94,10 +100,10 @@ step_all true o records none h = refl
 step_all false o records none h = sym (subst (λ (p : Option Tally). IsTallyAt p records) (none refl) h)
 
 -- once all entries have passed, each key's records have
-pub among_all : (key : Key) (es : List Entry) (records : List ProfileRecord) → IsTallyAt (lookup (is_at (key_against key)) es) records → among key es records ≡ records
+pub among_all : (key : Key) (es : List Entry) (records : List ProfileRecord) → IsTallyAt (lookup (is_key key) es) records → among key es records ≡ records
 among_all key es records h =
-    step_all (is_among key es) (lookup (is_at (key_against key)) es) records
-    (λ apart. ap (lookup (is_at (key_against key))) (sym (append-nil es)) ∙ lookup_behind key es [] apart) h
+    step_all (is_among key es) (lookup (is_key key) es) records
+    (λ apart. ap (lookup (is_key key)) (sym (append-nil es)) ∙ lookup_behind key es [] apart) h
 
 is_among_push : (key : Key) (ys : List Entry) (e : Entry) → is_among key (ys ++ e ∷ []) ≡ (is_among key ys || is_eq (key_cmp key (plain_key e.0)))
 is_among_push key [] e = or_false (is_eq (key_cmp key (plain_key e.0)))
@@ -155,13 +161,13 @@ step_sum true recs t o r rest here more = (r, ap (λ (rs : List ProfileRecord). 
 step_sum false recs t o r rest here more = more
 
 pub sum_found : (recs : List ProfileRecord) (key : Key) (es : List Entry) (outs : List ProfileRecord) → IsStrictlySortedBy borrowed_key_cmp (keys_of es) → AllZip (IsEntrySum recs) es outs →
-    IsSumAt (of_key key recs) (lookup (is_at (key_against key)) es) (of_key key outs)
+    IsSumAt (of_key key recs) (lookup (is_key key) es) (of_key key outs)
 sum_found recs key [] [] sorted zips = refl
 sum_found recs key [] (r ∷ outs) sorted zips = absurd zips
 sum_found recs key (e ∷ es) [] sorted zips = absurd zips
 sum_found recs key (e ∷ es) (r ∷ outs) sorted zips =
-    subst (λ (k : Key). IsSumAt (of_key key recs) (cond (is_eq (key_cmp key (plain_key e.0))) (Some e.1) (lookup (is_at (key_against key)) es)) (cond (is_eq (key_cmp key k)) (r ∷ of_key key outs) (of_key key outs))) (sym zips.0.0)
-    (step_sum (is_eq (key_cmp key (plain_key e.0))) (of_key key recs) e.1 (lookup (is_at (key_against key)) es) r (of_key key outs)
+    subst (λ (k : Key). IsSumAt (of_key key recs) (cond (is_eq (key_cmp key (plain_key e.0))) (Some e.1) (lookup (is_key key) es)) (cond (is_eq (key_cmp key k)) (r ∷ of_key key outs) (of_key key outs))) (sym zips.0.0)
+    (step_sum (is_eq (key_cmp key (plain_key e.0))) (of_key key recs) e.1 (lookup (is_key key) es) r (of_key key outs)
     (λ test. let same : key ≡ plain_key e.0 = same_key key (plain_key e.0) test in (
       none_beyond recs key es outs zips.1 (subst (λ (k : Key). AllByRecursion (λ x. key_cmp k (plain_key x) ≡ Less) (keys_of es)) (sym same) (sorted_head borrowed_key_cmp e.0 (keys_of es) sorted)),
       subst (λ (k : Key). IsSumOf (of_key k recs) r) (sym same) zips.0.1,
@@ -196,10 +202,10 @@ merged_key (r ∷ rs) None outs tally sum = cc
 merged_key (r ∷ rs) (Some t) outs tally sum = sum
 
 pub entries_are_merged : (recs : List ProfileRecord) (es : List Entry) (outs : List ProfileRecord) → IsStrictlySortedBy borrowed_key_cmp (keys_of es) →
-    ((key : Key) → IsTallyAt (lookup (is_at (key_against key)) es) (of_key key recs)) → AllZip (IsEntrySum recs) es outs → IsMerged recs outs
+    ((key : Key) → IsTallyAt (lookup (is_key key) es) (of_key key recs)) → AllZip (IsEntrySum recs) es outs → IsMerged recs outs
 entries_are_merged recs es outs sorted gathers zips = record {
   rises = keys_rise recs es outs sorted zips;
-  keys = λ key. merged_key (of_key key recs) (lookup (is_at (key_against key)) es) (of_key key outs) (gathers key) (sum_found recs key es outs sorted zips);
+  keys = λ key. merged_key (of_key key recs) (lookup (is_key key) es) (of_key key outs) (gathers key) (sum_found recs key es outs sorted zips);
 }
 
 -- ---- the first key that can't be summed
@@ -244,20 +250,20 @@ unfolding IsStrictlySortedBy
 sorted_back [] zs sorted = sorted
 sorted_back (y ∷ ys) zs sorted = sorted_back ys zs sorted.1
 
-lookup_front : (key : Key) (ys zs : List Entry) → lookup (is_at (key_against key)) zs ≡ None → lookup (is_at (key_against key)) (ys ++ zs) ≡ lookup (is_at (key_against key)) ys
+lookup_front : (key : Key) (ys zs : List Entry) → lookup (is_key key) zs ≡ None → lookup (is_key key) (ys ++ zs) ≡ lookup (is_key key) ys
 lookup_front key [] zs none = none
 lookup_front key (y ∷ ys) zs none = ap (λ (o : Option Tally). cond (is_eq (key_cmp key (plain_key y.0))) (Some y.1) o) (lookup_front key ys zs none)
 
 -- a key below that of e has no entry from e on
-none_from : (key : Key) (e : Entry) (rest : List Entry) → key_cmp key (plain_key e.0) ≡ Less → IsStrictlySortedBy borrowed_key_cmp (keys_of (e ∷ rest)) → lookup (is_at (key_against key)) (e ∷ rest) ≡ None
+none_from : (key : Key) (e : Entry) (rest : List Entry) → key_cmp key (plain_key e.0) ≡ Less → IsStrictlySortedBy borrowed_key_cmp (keys_of (e ∷ rest)) → lookup (is_key key) (e ∷ rest) ≡ None
 none_from key e rest below sorted =
-    lookup-none (is_at (key_against key)) (e ∷ rest) (none_below_head borrowed_key_cmp_total (borrowed key) e rest sorted below)
+    lookup-none (is_key key) (e ∷ rest) (none_below_head borrowed_key_cmp_total (borrowed key) e rest sorted below)
 
 pub lesser_fit : (recs : List ProfileRecord) (ys rest : List Entry) (e : Entry) (outs : List ProfileRecord) → IsStrictlySortedBy borrowed_key_cmp (keys_of (ys ++ e ∷ rest)) →
-    ((key : Key) → IsTallyAt (lookup (is_at (key_against key)) (ys ++ e ∷ rest)) (of_key key recs)) → AllZip (IsEntrySum recs) ys outs → LesserFit (plain_key e.0) recs
+    ((key : Key) → IsTallyAt (lookup (is_key key) (ys ++ e ∷ rest)) (of_key key recs)) → AllZip (IsEntrySum recs) ys outs → LesserFit (plain_key e.0) recs
 lesser_fit recs ys rest e outs sorted gathers zips key below =
-    let front : lookup (is_at (key_against key)) (ys ++ e ∷ rest) ≡ lookup (is_at (key_against key)) ys = lookup_front key ys (e ∷ rest) (none_from key e rest below (sorted_back ys (e ∷ rest) sorted)) in
-    fits_at (of_key key recs) (lookup (is_at (key_against key)) ys) (of_key key outs)
+    let front : lookup (is_key key) (ys ++ e ∷ rest) ≡ lookup (is_key key) ys = lookup_front key ys (e ∷ rest) (none_from key e rest below (sorted_back ys (e ∷ rest) sorted)) in
+    fits_at (of_key key recs) (lookup (is_key key) ys) (of_key key outs)
     (subst (λ (o : Option Tally). IsTallyAt o (of_key key recs)) front (gathers key))
     (sum_found recs key ys outs (sorted_front ys (e ∷ rest) sorted) zips)
 

@@ -1,5 +1,5 @@
 -- When records can't be merged: two of one key have other numbers of counters, or else of sites.
-use Rattle.std.specs.Prelude.{◌≡◌, ◌==◌, ℕ, Bool, not, List, [], ◌∷◌, Option, Some, None, length, map, find, cond}
+use Rattle.std.specs.Prelude.{◌≡◌, ◌==◌, ℕ, Bool, not, List, [], ◌∷◌, Option, Some, None, length, map, find}
 use Rattle.std.specs.declared.cmp.Ordering.TheVariants.{Less}
 use Rattle.std.specs.Option.{option_map}
 use Rattle.prof_view.specs.Profile.{ProfileRecord}

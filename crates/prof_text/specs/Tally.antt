@@ -1,5 +1,5 @@
 -- What is kept of the records of one key while they are merged.
-use Rattle.std.specs.Prelude.{◌≡◌, ℕ, List, Option, Some, None}
+use Rattle.std.specs.Prelude.{◌≡◌, List, Some, None}
 use Rattle.prof_view.specs.Profile.{ProfileRecord}
 use Rattle.prof_text.specs.Merged.{Key}
 use Rattle.prof_text.specs.Site.{sites_of}

@@ -59,6 +59,23 @@ impl<'a> Tally<'a> {
         Ok(())
     }
 
+    /// Makes the tally that of its own records and then one with these counters and with these targets at its sites. There
+    /// are fewer than 2^32 of each.
+    pub fn add(&mut self, counters: &[u64], sites: &[Vec<(&'a [u8], u64)>]) -> Result<(), NoMemory>
+        requires counters { length counters.now < 2 ^ 32 }
+        requires sites { length sites.now < 2 ^ 32 }
+        ensures { (rs : List ProfileRecord) (r : ProfileRecord) → r.counters ≡ counters.now → r.sites ≡ sites_of sites.now → Tallies self.old rs → OnOk result (Tallies self.new (rs ++ r ∷ [])) }
+    {
+        self.other_counters = join_counters(
+            &mut self.counters,
+            self.other_counters,
+            counters,
+            None,
+        );
+        self.other_sites = join_sites(&mut self.sites, self.other_sites, sites, None)?;
+        Ok(())
+    }
+
     /// The sum of the tally's records under their name and hash, or why they can't be summed.
     pub fn record(&self, alloc: Global, name: &[u8], hash: u64) -> Result<ProfRecord, MergeError>
         ensures sum { (rs : List ProfileRecord) → Tallies self.now rs → IfOk result (λ r. IsSumOf rs (value_of r)) }

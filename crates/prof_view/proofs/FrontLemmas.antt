@@ -1,6 +1,6 @@
 -- The front of a text: a line feed begins no line that counts, and a byte that is no blank begins the next one.
 use Rattle.std.proofs.Common.{◌≡◌, ℕ, ◌<◌, Bool, true, false, cond, List, [], ◌∷◌, ◌++◌, length, get_or, drop, map, filter, reverse, refl, sym, ap, ◌∙◌, arith}
-use Rattle.std.specs.Prelude.{◌==◌, not}
+use Rattle.std.specs.Prelude.{◌==◌, codes, not}
 use Rattle.std.specs.List.{onto_first, slice_split}
 use Rattle.std.proofs.lemmas.List.{reverse-append}
 use Rattle.prof_view.specs.Grammar.{any_line, next_is}
@@ -15,6 +15,20 @@ content_feed bs = refl
 pub feed_skipped : (text : List ℕ) → 0 < length text → get_or text 0 0 ≡ 10 → content (drop 1 text) ≡ content text
 feed_skipped [] some feed = absurd (omega arith)
 feed_skipped (b ∷ bs) some feed = sym (ap (λ (c : ℕ). content (c ∷ bs)) feed ∙ content_feed bs)
+
+-- # The comments that profiles are written with
+
+pub hash_comment : (rest : List ℕ) → content (codes "# Func Hash:\n" ++ rest) ≡ content rest
+unfolding content trim
+hash_comment rest = refl
+
+pub number_comment : (rest : List ℕ) → content (codes "# Num Counters:\n" ++ rest) ≡ content rest
+unfolding content trim
+number_comment rest = refl
+
+pub counters_comment : (rest : List ℕ) → content (codes "# Counter Values:\n" ++ rest) ≡ content rest
+unfolding content trim
+counters_comment rest = refl
 
 -- # A byte that is no blank
 

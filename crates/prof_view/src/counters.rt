@@ -8,7 +8,7 @@ ghost use Rattle.prof_view.specs.Reads.{Reads, Skips};
 
 use crate::fault::Fault;
 use crate::fields::number_line;
-use crate::lines::skip_comments;
+use crate::lines::{skip_comments, skip_written};
 use std::marker::Model;
 
 /// The counters of a record, in order. Contracts see the list of those that are left.
@@ -28,14 +28,6 @@ impl<'a> Model for CounterLines<'a> {
 }
 
 impl<'a> CounterLines<'a> {
-    /// At least as many as are left. Takes no memory.
-    #[tactic(auto, using(crate::proofs::TimesLemmas::few_values), unfolding(crate::specs::Views::counters_at))]
-    pub fn at_most(&self) -> usize
-        ensures { length self.now ≤ result }
-    {
-        self.left as usize
-    }
-
     // The same counters.
     pub(crate) fn again(&self) -> CounterLines<'a>
         ensures { result ≡ self.now }
@@ -86,13 +78,22 @@ fn skip_numbers(text: &[u8], count: u32) -> Result<&[u8], Fault>
     Ok(rest)
 }
 
+// The text behind the comments above the counters.
+#[inline(always)]
+#[tactic(auto, using(crate::proofs::FrontLemmas::counters_comment))]
+fn behind_comments(text: &[u8]) -> &[u8]
+    ensures { content result.now ≡ content text.now }
+{
+    skip_comments(skip_written(text, b"# Counter Values:\n"))
+}
+
 /// So many counters.
 #[tactic(auto, using(crate::proofs::TimesLemmas::times_some, crate::proofs::TimesLemmas::times_none, crate::proofs::TimesLemmas::few_values), unfolding(crate::specs::Views::counters_at))]
 pub(crate) fn counters(text: &[u8], count: u32) -> Result<(CounterLines<'_>, &[u8]), Fault>
     ensures reads { Reads (λ c. c) result text.now (times number_line count).read }
     ensures few { IfOk result (λ p. length p.0 ≤ count) }
 {
-    let first = skip_comments(text);
+    let first = behind_comments(text);
     let rest = skip_numbers(first, count)?;
     let counters = CounterLines {
         rest: first,

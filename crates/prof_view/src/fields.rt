@@ -4,9 +4,9 @@ ghost use Rattle.prof_view.specs.Grammar.{header_line, name_line, hash_line, num
 ghost use Rattle.prof_view.specs.Reads.{Reads};
 
 use crate::fault::Fault;
-use crate::lines::{next_line, skip_comments};
+use crate::lines::{next_line, skip_comments, skip_written};
 use crate::numbers::{decimal, hash};
-use crate::plain::plain_number;
+use crate::plain::{long_number, plain_name, plain_number};
 use crate::words::{header_word, name, target};
 
 #[tactic(auto, unfolding(crate::specs::Grammar::header_line))]
@@ -24,6 +24,9 @@ pub(crate) fn header_line(text: &[u8]) -> Result<(bool, &[u8]), Fault>
 pub(crate) fn name_line(text: &[u8]) -> Result<(&[u8], &[u8]), Fault>
     ensures { Reads (λ x. x.now) result text.now name_line.read }
 {
+    if let Some(found) = plain_name(text) {
+        return Ok(found);
+    }
     let (line, rest) = next_line(text)?;
     match name(line) {
         Some(name) => Ok((name, rest)),
@@ -32,12 +35,15 @@ pub(crate) fn name_line(text: &[u8]) -> Result<(&[u8], &[u8]), Fault>
 }
 
 /// The hash of a record.
-#[tactic(auto, using(crate::proofs::PlainLemmas::plain_hash))]
+#[tactic(auto, using(crate::proofs::PlainLemmas::plain_hash, crate::proofs::FrontLemmas::hash_comment))]
 pub(crate) fn hash_line(text: &[u8]) -> Result<(u64, &[u8]), Fault>
     ensures { Reads (λ x. x) result text.now hash_line.read }
 {
-    let first = skip_comments(text);
-    match plain_number(first) {
+    let first = skip_comments(skip_written(text, b"# Func Hash:\n"));
+    if let Some(found) = plain_number(first) {
+        return Ok(found);
+    }
+    match long_number(first) {
         Some(found) => Ok(found),
         None => any_hash_line(first),
     }

@@ -1,5 +1,5 @@
 // The lines of a text that count.
-ghost use Rattle.std.specs.Prelude.{◌≡◌, ◌<◌, ◌≤◌, reverse, length, drop, IfSome};
+ghost use Rattle.std.specs.Prelude.{◌≡◌, ◌<◌, ◌≤◌, ◌++◌, ℕ, List, reverse, length, drop, IfSome};
 ghost use Rattle.prof_view.specs.Lines.{is_blank, skip_blanks, trim, counts, content, with_line};
 ghost use Rattle.prof_view.specs.Reads.{NextLine, FirstLine, BeginsWith};
 
@@ -96,6 +96,18 @@ pub(crate) fn next_line(text: &[u8]) -> Result<(&[u8], &[u8]), Fault>
     match next_content(text) {
         Some(found) => Ok(found),
         None => Err(Fault { left: 0 }),
+    }
+}
+
+/// The text behind a comment at its front that profiles are written with, if it is this one.
+#[inline(always)]
+pub(crate) fn skip_written<'a, const N: usize>(text: &'a [u8], comment: &[u8; N]) -> &'a [u8]
+    requires { (rest : List ℕ) → content (comment.now ++ rest) ≡ content rest }
+    ensures { content result.now ≡ content text.now }
+{
+    match text.split_first_chunk::<N>() {
+        Some((front, rest)) => { if front == comment { rest } else { text } }
+        None => text,
     }
 }
 

@@ -6,6 +6,7 @@ ghost use Rattle.prof_view.specs.Reads.{Reads};
 use crate::counters::{CounterLines, counters};
 use crate::fault::Fault;
 use crate::fields::{hash_line, name_line, number_line_within};
+use crate::lines::skip_written;
 use crate::sites::{SiteLines, values_ahead};
 use std::marker::Model;
 
@@ -83,13 +84,14 @@ struct NamedCounters<'a> {
     counters: CounterLines<'a>,
 }
 
-#[tactic(auto, unfolding(crate::specs::Grammar::head))]
+#[tactic(auto, using(crate::proofs::FrontLemmas::number_comment), unfolding(crate::specs::Grammar::head))]
 fn head(text: &[u8]) -> Result<(NamedCounters<'_>, &[u8]), Fault>
     ensures reads { Reads (λ h. (h.name.now, h.hash, h.counters)) result text.now head.read }
     ensures few { IfOk result (λ p. length p.0.counters ≤ counters_most) }
 {
     let (name, rest) = name_line(text)?;
     let (hash, rest) = hash_line(rest)?;
+    let rest = skip_written(rest, b"# Num Counters:\n");
     let (count, rest) = number_line_within(rest, 1, 1_048_576)?;
     let (counters, rest) = counters(rest, count as u32)?;
     let head = NamedCounters {

@@ -85,6 +85,19 @@ fn hashes_are_read_in_both_notations(rt: HostRuntime) -> Result<(), Fail> {
 }
 
 #[test]
+fn long_numbers_are_read_among_the_written_comments(rt: HostRuntime) -> Result<(), Fail> {
+    let view = ProfileView::read(
+        rt.alloc(),
+        b"_f\n# Func Hash:\n18446744073709551615\n# Num Counters:\n3\n# Counter Values:\n9999999999999999999\n18446744073709551615\n0000000000000000000007\n\ng\n# Func Hash: \n7\n# Num Counters\n1\n5\n",
+    )?;
+    assert_eq!(rt;
+        shown(rt.alloc(), &view)?.as_slice(),
+        b"_f 18446744073709551615; 9999999999999999999 18446744073709551615 7\ng 7; 5\n".as_slice()
+    );
+    Ok(())
+}
+
+#[test]
 fn names_have_blanks_and_colons_inside(rt: HostRuntime) -> Result<(), Fail> {
     let view = ProfileView::read(
         rt.alloc(),

@@ -1,4 +1,4 @@
-use Rattle.std.proofs.Common.{◌≡◌, ◌+◌, ◌<◌, ◌≤◌, ℕ, Bool, Some, length, slice_get, get_or, sym, ap, ◌∙◌, rules, arith, below_more}
+use Rattle.std.proofs.Common.{◌≡◌, ◌<◌, Bool, Some, length, slice_get, sym, ap, ◌∙◌, rules, arith, below_more}
 use Rattle.prof_view.specs.Profile.{ProfileInput}
 use Rattle.prof_merge.specs.Inputs.{modes_of}
 use Rattle.prof_merge.proofs.InputLemmas.{mode_at, all_modes}

@@ -1,4 +1,4 @@
-use Rattle.std.proofs.Common.{◌≡◌, ◌<◌, List, IfOk, subst, rules, arith}
+use Rattle.std.proofs.Common.{◌<◌, List, IfOk, subst, rules}
 use Rattle.rayon.specs.Lists.{chunks_of}
 use Rattle.rayon.proofs.ToStd.{chunks_of-concat}
 use Rattle.prof_view.specs.Profile.{ProfileInput}

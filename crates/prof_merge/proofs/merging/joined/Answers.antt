@@ -1,9 +1,9 @@
-use Rattle.std.proofs.Common.{◌≡◌, ◌+◌, ℕ, suc, length, vec_len, append-nil, append_assoc, arith, refl, List, [], ◌∷◌, ◌++◌, Result, Ok, IfOk, sym, ap, ◌∙◌, subst, rules}
-use Rattle.std.specs.List.{AllZip, flat_map}
+use Rattle.std.proofs.Common.{◌≡◌, ◌+◌, ℕ, suc, length, vec_len, append-nil, append_assoc, arith, refl, List, [], ◌∷◌, ◌++◌, Result, IfOk, sym, ap, ◌∙◌, subst, rules}
+use Rattle.std.specs.List.{AllZip}
 use Rattle.std.specs.Vec.Iter.{into_iter_items, into_iter_len}
 use Rattle.pgo_base.specs.declared.errors.NoMemory.{NoMemory}
 use Rattle.prof_view.specs.Profile.{ProfileInput}
-use Rattle.prof_text.specs.Merged.{Key, of_key}
+use Rattle.prof_text.specs.Merged.{of_key}
 use Rattle.prof_text.specs.Gathered.{Gathers}
 use Rattle.prof_text.specs.declared.gathered.Gathered.{Gathered}
 use Rattle.prof_merge.specs.Inputs.{records_of}

@@ -1,6 +1,3 @@
-use Rattle.std.proofs.Common.{◌≡◌, ◌<◌, ℕ, Bool, List, Some, length, sym, ap, ◌∙◌}
-use Rattle.prof_view.specs.Profile.{ProfileInput}
-use Rattle.prof_text.specs.Order.{Reordered, OneMerge, OneKey}
 use Rattle.prof_merge.specs.Inputs.{records_of}
 use Rattle.prof_merge.proofs.OrderLemmas.{same_inputs, same_mode, modes_differ, one_profile}
 use Rattle.prof_merge.proofs.order.any_inputs.Goals as goal

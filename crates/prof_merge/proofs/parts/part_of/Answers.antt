@@ -1,9 +1,8 @@
-use Rattle.std.proofs.Common.{◌≡◌, ◌+◌, ◌<◌, ◌++◌, ◌∷◌, [], List, length, take, sym, ap, ◌∙◌, subst, rules, arith, append-nil}
+use Rattle.std.proofs.Common.{◌≡◌, ◌+◌, ◌<◌, ◌++◌, ◌∷◌, [], List, length, take, sym, ap, ◌∙◌, arith, append-nil}
 use Rattle.std.proofs.lemmas.List.{take_more}
 use Rattle.std.proofs.lemmas.List.Concat.{flat_map-append}
 use Rattle.prof_view.specs.Profile.{ProfileRecord, ProfileInput}
 use Rattle.prof_text.specs.Merged.{of_key}
-use Rattle.prof_text.specs.Gathered.{Gathers}
 use Rattle.prof_merge.specs.Inputs.{records_of}
 use Rattle.prof_merge.proofs.InputLemmas.{same_gathers}
 use Rattle.prof_merge.proofs.parts.part_of.Goals as goal

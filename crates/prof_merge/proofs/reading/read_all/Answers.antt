@@ -1,4 +1,4 @@
-use Rattle.std.proofs.Common.{◌≡◌, ℕ, Result, ap, ◌∙◌}
+use Rattle.std.proofs.Common.{ℕ, Result, ap, ◌∙◌}
 use Rattle.std.specs.Global.{Vec}
 use Rattle.rayon.specs.Lists.{min_len_base}
 use Rattle.rayon.proofs.ListFacts.{IfOk-then}

@@ -1,4 +1,4 @@
-use Rattle.std.proofs.Common.{◌≡◌, ◌+◌, ◌<◌, length, ◌++◌, arith, rules, ◌∙◌, ap}
+use Rattle.std.proofs.Common.{◌≡◌, ◌<◌, length, ◌++◌, arith, rules}
 use Rattle.prof_text.proofs.AppendLemmas.{append_step}
 use Rattle.prof_text.proofs.joining.append_all.Goals as goal
 

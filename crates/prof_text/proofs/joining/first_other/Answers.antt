@@ -1,4 +1,4 @@
-use Rattle.std.proofs.Common.{◌≡◌, ℕ, List, Option, Some, None, find, slice_get, ◌++◌, is_some, Bool, true, false, not, nat_eq, eqb, sym, ap, ◌∙◌, subst, refl, rules, arith}
+use Rattle.std.proofs.Common.{◌≡◌, ℕ, Option, Some, None, find, is_some, true, false, sym, ap, ◌∙◌, refl, rules, arith}
 use Rattle.prof_text.specs.Mismatch.{differs_from}
 use Rattle.prof_text.proofs.FindLemmas.{find_front, find_back, find_head}
 use Rattle.prof_text.proofs.joining.first_other.Goals as goal

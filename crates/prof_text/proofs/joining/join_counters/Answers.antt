@@ -1,6 +1,5 @@
-use Rattle.std.proofs.Common.{is_some, true, false, ◌≡◌, ◌+◌, ◌++◌, ℕ, List, Option, Some, None, length, take, drop, min, slice_index, sym, ap, ◌∙◌, subst, refl, rules, arith}
+use Rattle.std.proofs.Common.{is_some, true, ◌≡◌, ◌+◌, ◌++◌, ℕ, List, Option, None, length, take, drop, min, slice_index, sym, ap, ◌∙◌, subst, refl, rules}
 use Rattle.std.proofs.lemmas.List.{take_at}
-use Rattle.prof_view.specs.Profile.{ProfileRecord}
 use Rattle.prof_text.specs.Merged.{most}
 use Rattle.prof_text.specs.Sums.{IsCounterTally}
 use Rattle.prof_text.proofs.SumLemmas.{join_counter_tally, none_of, some_is_not_none}

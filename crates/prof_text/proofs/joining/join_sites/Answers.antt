@@ -1,9 +1,8 @@
-use Rattle.std.proofs.Common.{is_some, true, false, ◌≡◌, ◌+◌, ◌++◌, [], ℕ, List, Option, Some, None, length, take, drop, min, slice_index_or, sym, ap, ◌∙◌, subst, refl, rules, arith}
+use Rattle.std.proofs.Common.{is_some, true, ◌≡◌, ◌++◌, [], ℕ, List, Option, None, length, take, drop, slice_index_or, sym, ap, ◌∙◌, subst, refl, rules}
 use Rattle.std.specs.Borrow.{Bor}
 use Rattle.std.specs.Global.{Vec}
 use Rattle.std.proofs.lemmas.List.{take_at, length-map}
-use Rattle.prof_view.specs.Profile.{ProfileRecord}
-use Rattle.prof_text.specs.Site.{sites_of, targets_of}
+use Rattle.prof_text.specs.Site.{sites_of}
 use Rattle.prof_text.specs.Sums.{IsSiteTally}
 use Rattle.prof_text.proofs.SumLemmas.{join_site_tally, none_of, some_is_not_none}
 use Rattle.prof_text.proofs.joining.join_sites.Goals as goal

@@ -1,4 +1,4 @@
-use Rattle.std.proofs.Common.{◌≡◌, List, sym, ap, ◌∙◌, rules}
+use Rattle.std.proofs.Common.{◌≡◌, sym, rules}
 use Rattle.prof_text.specs.Record.{value_of}
 use Rattle.prof_text.specs.Site.{sites_of}
 use Rattle.prof_text.proofs.profile.tally_of.Goals as goal

@@ -1,8 +1,7 @@
-use Rattle.std.proofs.Common.{◌≡◌, ◌+◌, ◌<◌, ◌++◌, ◌∷◌, [], ℕ, List, length, take, get_or, min, unwrap_or, Option, sym, ap, ◌∙◌, subst, arith}
+use Rattle.std.proofs.Common.{◌≡◌, ◌<◌, ◌++◌, ◌∷◌, [], ℕ, List, length, take, get_or, unwrap_or, Option, sym, ap, ◌∙◌, subst, arith}
 use Rattle.std.specs.Borrow.{Bor}
 use Rattle.std.specs.BTreeMap as tree
 use Rattle.std.proofs.lemmas.List.{take_more, map-append}
-use Rattle.prof_text.specs.Merged.{Target, most}
 use Rattle.prof_text.specs.Site.{against, target_of, targets_of}
 use Rattle.prof_text.proofs.SiteLemmas.{Counted, counted_push}
 use Rattle.prof_text.proofs.site.counts_of.Goals as goal

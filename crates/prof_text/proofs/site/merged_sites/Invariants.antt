@@ -1,4 +1,4 @@
-use Rattle.std.proofs.Common.{◌≡◌, ◌<◌, ℕ, get_or, [], vec_len, length}
+use Rattle.std.proofs.Common.{◌≡◌, ◌<◌, ℕ, get_or, [], length}
 use Rattle.prof_text.specs.Merged.{IsMergedSite}
 use Rattle.prof_text.specs.Site.{sites_of}
 use Rattle.prof_text.proofs.site.merged_sites.Given as goal

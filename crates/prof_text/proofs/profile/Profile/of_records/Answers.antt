@@ -1,6 +1,5 @@
-use Rattle.std.proofs.Common.{◌≡◌, List, sym, ap, ◌∙◌, subst, rules, IfErr}
+use Rattle.std.proofs.Common.{List, subst}
 use Rattle.prof_text.specs.Merged.{of_key}
-use Rattle.prof_text.specs.Mismatch.{IsMismatch}
 use Rattle.prof_text.specs.Record.{values_of}
 use Rattle.prof_text.specs.Gathered.{Gathers}
 use Rattle.prof_text.specs.declared.record.ProfRecord.{ProfRecord}

@@ -1,10 +1,9 @@
-use Rattle.std.proofs.Common.{◌≡◌, ◌<◌, ℕ, List, None, [], length, slice_index_or, sym, ap, ◌∙◌, subst, rules, arith}
+use Rattle.std.proofs.Common.{◌≡◌, ◌<◌, ℕ, List, [], length, slice_index_or, sym, ap, ◌∙◌, subst, rules, arith}
 use Rattle.std.proofs.lemmas.List.{length-map}
 use Rattle.std.specs.Borrow.{Bor}
 use Rattle.std.specs.Global.{Vec}
 use Rattle.prof_text.specs.Merged.{IsMergedSite}
 use Rattle.prof_text.specs.Site.{sites_of}
-use Rattle.prof_text.specs.Record.{value_of}
 use Rattle.prof_text.proofs.SumLemmas.{sum_of_tally}
 use Rattle.prof_text.proofs.tally.Tally.record.Goals as goal
 
