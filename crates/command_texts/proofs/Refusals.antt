@@ -1,5 +1,7 @@
 -- A refusal of the code is one of the judgement.
-use Rattle.std.proofs.Common.{◌≡◌, ℕ, List, length, Err, refl, subst, sym, arith}
+use Rattle.std.proofs.Common.{◌≡◌, ℕ, ◌≤◌, List, ◌++◌, length, Ok, Err, inl, inr, refl, subst, sym}
+use Rattle.std.specs.Prelude.{Result, IfOk, IfErr, codes, decimal}
+use Rattle.ir_check.specs.Accepted.{IsAccepted}
 use Rattle.ir_tree.specs.declared.types.Module.{Module}
 use Rattle.call_list.specs.Reading.{Answers, meanings}
 use Rattle.call_list.specs.declared.error.CallsError.{CallsError}
@@ -8,12 +10,12 @@ use Rattle.pgo_shell.specs.Product.{RefusedBy}
 use Rattle.pgo_shell.specs.declared.command.Refusal.{Refusal}
 use Rattle.pgo_shell.specs.declared.command.Refusal.TheVariants as refusal
 use Rattle.ir_read.specs.Spelled as reading
-use Rattle.ir_read.specs.declared.error.ReadError.{ReadError}
+use Rattle.ir_read.specs.Spelled.{SpellsText}
 use Rattle.ir_read.specs.declared.error.ReadError.TheVariants as read_error
 use Rattle.command_texts.specs.Calls.{calls_on}
-use Rattle.command_texts.specs.Program.{IsProgram}
+use Rattle.command_texts.specs.Program.{IsTheProgram, program}
 use Rattle.command_lines.specs.Says.{RefusedWith}
-use Rattle.command_texts.specs.Says.{SaysCalls}
+use Rattle.command_texts.specs.Says.{SaysCalls, SaysNotAccepted}
 
 -- a refusal with these bytes is one of a judgement that refuses with them
 pub refused_by : {V K : Type 0} {key : V → K} (judgement : Judgement V K key) (bytes : List ℕ) (r : Refusal) → RefusedWith bytes r → judgement.refuses bytes → RefusedBy judgement r
@@ -25,8 +27,29 @@ pub bad_calls : (file text : List ℕ) (m : Module) (e : CallsError) (r : Refusa
 bad_calls file text m e (refusal.Text line) says answers = (e, says.0, answers, says.1)
 bad_calls file text m e refusal.NoMemory says answers = tt
 
--- a text that was not read is no program, unless memory ran out
-pub unread : (text : List ℕ) (e : ReadError) → reading.Refuses text e → (e ≡ read_error.NoMemory → ⊥) → (m : Module) → IsProgram text m → ⊥
-unread text (read_error.Syntax at) refused other m is = refused.2 m is.spelled
-unread text (read_error.TextLimit found) refused other m is = omega (arith, refused.1, is.fits)
-unread text read_error.NoMemory refused other m is = other refl
+-- a text that spells no module
+pub broken : (file text : List ℕ) (at : ℕ) (r : Refusal) → RefusedWith (file ++ codes ": syntax at byte " ++ decimal at) r → reading.Refuses text (read_error.Syntax at) → RefusedBy (program file text) r
+broken file text at r says refused =
+    refused_by (program file text) (file ++ codes ": syntax at byte " ++ decimal at) r says (inr (inl (at, (refused.0, refused.1, refused.2, refl))))
+
+pub too_long : (file text : List ℕ) (found : ℕ) (r : Refusal) → RefusedWith (file ++ codes ": too long") r → reading.Refuses text (read_error.TextLimit found) → RefusedBy (program file text) r
+too_long file text found r says refused =
+    refused_by (program file text) (file ++ codes ": too long") r says (inl (refused.1, refl))
+
+not_accepted : (file text : List ℕ) (m : Module) (r : Refusal) → SaysNotAccepted file m r → SpellsText text m → RefusedBy (program file text) r
+not_accepted file text m (refusal.Text line) says spelled = inr (inr (m, (spelled, says.0, says.1)))
+not_accepted file text m refusal.NoMemory says spelled = tt
+
+-- what the check of the module that the text spells gives
+pub program_refused : (file text : List ℕ) (m : Module) (r : Result Module Refusal) → IfErr r (λ why. SaysNotAccepted file m why) → SpellsText text m → IfErr r (RefusedBy (program file text))
+program_refused file text m (Ok n) says spelled = tt
+program_refused file text m (Err why) says spelled = not_accepted file text m why says spelled
+
+pub program_found : (text : List ℕ) (m : Module) (r : Result Module Refusal) → IfOk r (λ n. (n ≡ m) × IsAccepted n) → SpellsText text m → length text ≤ reading.most_bytes → ((x y : Module) → SpellsText text x → SpellsText text y → x ≡ y) → IfOk r (λ n. IsTheProgram text n)
+program_found text m (Ok n) found spelled fits once =
+    let its = subst (SpellsText text) (sym found.0) spelled in
+    record {
+      is = record { fits = fits; spelled = its; accepted = found.1 };
+      only = λ x h. once x n h its;
+    }
+program_found text m (Err why) found spelled fits once = tt

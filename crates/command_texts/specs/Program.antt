@@ -1,5 +1,6 @@
 -- The program that a module's text is.
-use Rattle.std.specs.Prelude.{◌≡◌, ℕ, ◌≤◌, List, ◌++◌, length, codes, refl}
+use Rattle.std.specs.Prelude.{◌≡◌, ℕ, ◌<◌, ◌≤◌, ◌⊎◌, List, ◌++◌, length, codes, decimal, refl}
+use Rattle.std.proofs.Common.{inl, inr, subst, sym, arith}
 use Rattle.ir_tree.specs.declared.types.Module.{Module}
 use Rattle.ir_read.specs.Spelled.{SpellsText, most_bytes}
 use Rattle.ir_check.specs.Accepted.{IsAccepted}
@@ -18,12 +19,37 @@ pub record IsTheProgram (text : List ℕ) (m : Module) : Type 0 where
   pub is : IsProgram text m
   pub only : (n : Module) → SpellsText text n → n ≡ m
 
--- the text of a file as a program; one that is too long, or spells no accepted module, is `not built`
+-- the text is too long
+abbrev pub IsTooLong : List ℕ → List ℕ → List ℕ → Type 0
+IsTooLong file text line = (most_bytes < length text) × (line ≡ file ++ codes ": too long")
+
+-- the text spells no module, and the line names a place in it
+abbrev pub IsBroken : List ℕ → List ℕ → List ℕ → Type 0
+IsBroken file text line =
+    (at : ℕ) × ((at ≤ length text) × (length text ≤ most_bytes) × ((m : Module) → SpellsText text m → ⊥) × (line ≡ file ++ codes ": syntax at byte " ++ decimal at))
+
+-- the text spells a module that is not accepted
+abbrev pub IsNotAccepted : List ℕ → List ℕ → List ℕ → Type 0
+IsNotAccepted file text line = (m : Module) × (SpellsText text m × (IsAccepted m → ⊥) × (line ≡ file ++ codes ": not built"))
+
+-- why a text is no program, and the line that says so
+abbrev pub IsNoProgram : List ℕ → List ℕ → List ℕ → Type 0
+IsNoProgram file text line = IsTooLong file text line ⊎ (IsBroken file text line ⊎ IsNotAccepted file text line)
+
+pub no_program : (file text line : List ℕ) (m : Module) → IsNoProgram file text line → IsTheProgram text m → ⊥
+no_program file text line m (inl h) found = not_both (h.0) found.is.fits
+  where
+    not_both : most_bytes < length text → length text ≤ most_bytes → ⊥
+    not_both more less = omega arith
+no_program file text line m (inr (inl h)) found = h.1.2 m found.is.spelled
+no_program file text line m (inr (inr h)) found = h.1.1 (subst IsAccepted (sym (found.only h.0 h.1.0)) found.is.accepted)
+
+-- the text of a file as a program
 abbrev pub program : List ℕ → List ℕ → Part Module
 program file text = record {
-  refuses = λ line. ((m : Module) → IsProgram text m → ⊥) × (line ≡ file ++ codes ": not built");
+  refuses = IsNoProgram file text;
   finds = IsTheProgram text;
-  apart = λ line m refused found. refused.0 m found.is;
+  apart = λ line m refused found. no_program file text line m refused found;
   one = λ m n a b. b.only m a.is.spelled;
 }
 

@@ -1,12 +1,12 @@
 // The program and the calls that a command reads, and the lines that say why it has none.
-ghost use Rattle.std.specs.Prelude.{◌≡◌, IfErr, IfNone, IfOk, IfSome, OnOk};
+ghost use Rattle.std.specs.Prelude.{◌≡◌, IfErr, IfOk};
 ghost use Rattle.ir_check.specs.Accepted.{IsAccepted};
 ghost use Rattle.ir_model.specs.Run.{IsValidCallList};
 ghost use Rattle.ir_tree.specs.declared.types.Module.{Module};
 ghost use Rattle.pgo_shell.specs.Product.{RefusedBy};
 ghost use Rattle.command_texts.specs.Calls.{MakesCalls, calls_on};
-ghost use Rattle.command_texts.specs.Program.{IsProgram, IsTheProgram, program, runs_as_it_is};
-ghost use Rattle.command_texts.specs.Says.{SaysCalls};
+ghost use Rattle.command_texts.specs.Program.{program, runs_as_it_is};
+ghost use Rattle.command_texts.specs.Says.{SaysCalls, SaysNotAccepted};
 
 use call_list::{CallsError, read_calls};
 use command_lines::{refused, refused_at};
@@ -15,18 +15,24 @@ use ir_machine::{Code, ResolveError, resolve};
 use ir_model::Call;
 use ir_read::{ReadError, read};
 use ir_tree::Module;
-use pgo_base::NoMemory;
 use pgo_shell::Refusal;
 use std::alloc::Global;
 
-/// The program that a module's text is. A text that is too long or that spells no accepted module is refused.
+/// The program that a module's text is. A text that is too long, or that spells no accepted module, is refused.
 pub fn program(alloc: Global, name: &str, text: &[u8]) -> Result<Checked, Refusal>
     ensures found { IfOk result (λ m. (program name.now text.now).finds m) }
     ensures refuses { IfErr result (RefusedBy (program name.now text.now)) }
 {
-    match program_of(alloc, text)? {
-        Some(module) => Ok(module),
-        None => Err(refused(alloc, name, b": not built")),
+    match read(alloc, text) {
+        Ok(module) => accepted(alloc, name, module),
+        Err(ReadError::Syntax { at }) => Err(refused_at(
+            alloc,
+            name,
+            b": syntax at byte ",
+            at as u32,
+        )),
+        Err(ReadError::TextLimit { .. }) => Err(refused(alloc, name, b": too long")),
+        Err(ReadError::NoMemory) => Err(Refusal::NoMemory),
     }
 }
 
@@ -55,41 +61,18 @@ pub fn calls(alloc: Global, name: &str, module: &Checked, text: &[u8]) -> Result
     }
 }
 
-// The program that the text spells, and None exactly where it is too long or spells no accepted module.
-fn program_of(alloc: Global, text: &[u8]) -> Result<Option<Checked>, NoMemory>
-    ensures some { IfOk result (λ found. IfSome found (λ m. IsTheProgram text.now m)) }
-    ensures none { IfOk result (λ found. IfNone found ((m : Module) → IsProgram text.now m → ⊥)) }
-{
-    match read(alloc, text) {
-        Ok(module) => accepted(alloc, module),
-        Err(error) => {
-            of_text(error)?;
-            Ok(None)
-        }
-    }
-}
-
-// The error is one of the text itself, and not want of memory.
-fn of_text(error: ReadError) -> Result<(), NoMemory>
-    ensures { OnOk result (error ≡ ReadError.NoMemory → ⊥) }
-{
-    match error {
-        ReadError::Syntax { .. } => Ok(()),
-        ReadError::TextLimit { .. } => Ok(()),
-        ReadError::NoMemory => Err(NoMemory),
-    }
-}
-
 // The module, if it is accepted.
-fn accepted(alloc: Global, module: Module) -> Result<Option<Checked>, NoMemory>
-    ensures some { IfOk result (λ found. IfSome found (λ m. (m ≡ «module») × IsAccepted m)) }
-    ensures none { IfOk result (λ found. IfNone found (IsAccepted «module» → ⊥)) }
+fn accepted(alloc: Global, name: &str, module: Module) -> Result<Checked, Refusal>
+    ensures found { IfOk result (λ m. (m ≡ «module») × IsAccepted m) }
+    ensures refused { IfErr result (λ refusal. SaysNotAccepted name.now «module» refusal) }
 {
     match check(alloc, module) {
-        Ok(checked) => Ok(Some(checked)),
-        Err(refused) => match refused.why {
-            CheckError::NoMemory => Err(NoMemory),
-            CheckError::Unbuilt | CheckError::Limit { .. } | CheckError::Broken { .. } => Ok(None),
+        Ok(checked) => Ok(checked),
+        Err(error) => match error.why {
+            CheckError::NoMemory => Err(Refusal::NoMemory),
+            CheckError::Unbuilt | CheckError::Limit { .. } | CheckError::Broken { .. } => {
+                Err(refused(alloc, name, b": not built"))
+            }
         },
     }
 }

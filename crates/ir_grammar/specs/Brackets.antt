@@ -4,12 +4,8 @@ use Rattle.std.specs.Prelude.{◌≡◌, ℕ, ◌≤◌, cond, List, [], ◌∷�
 use Rattle.std.specs.Option.{option_and_then}
 use Rattle.std.proofs.Common.{refl, sym, ◌∙◌, ap, arith}
 use Rattle.ir_grammar.specs.Rules.{Rule, same_rest, some_pair}
-
--- what a token does: it opens a bracket of a kind, closes one of a kind, or neither
-pub data Bracket : Type 0 where
-  Opens : ℕ → Bracket
-  Closes : ℕ → Bracket
-  Neither : Bracket
+use Rattle.ir_grammar.specs.declared.words.Bracket.{Bracket}
+use Rattle.ir_grammar.specs.declared.words.Bracket.TheVariants.{Opens, Closes, Neither}
 
 -- the kinds of the brackets that are open behind the token, the innermost first; none where it closes another kind than
 -- the innermost

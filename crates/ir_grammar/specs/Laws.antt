@@ -7,13 +7,15 @@ use Rattle.ir_tree.specs.declared.types.Ret.TheVariants.{Void, Value}
 use Rattle.ir_tree.specs.declared.types.Operand.TheVariants as operands
 use Rattle.ir_tree.specs.declared.types.BinOp.TheVariants as operators
 use Rattle.ir_tree.specs.declared.types.Pred.TheVariants as predicates
+use Rattle.ir_tree.specs.declared.types.Flags.{Flags}
 use Rattle.ir_tree.specs.declared.types.Instr.TheVariants.{Binary, Compare, Phi, Call}
 use Rattle.ir_tree.specs.declared.types.Term.TheVariants as terms
 use Rattle.ir_tree.specs.declared.types.Block.{Block}
 use Rattle.ir_tree.specs.declared.types.Function.{Function}
 use Rattle.ir_tree.specs.declared.types.Module.{Module}
 use Rattle.ir_grammar.specs.Words.{Tokens}
-use Rattle.ir_grammar.specs.Grammar.{Spells, «module», no_flags}
+use Rattle.ir_grammar.specs.Notes.{Nodes, nodes_of}
+use Rattle.ir_grammar.specs.Grammar.{Spells, «module»}
 
 -- A list of tokens spells one module at most.
 abbrev pub OneModule : Type 0
@@ -21,11 +23,11 @@ OneModule = (ts : Tokens) (m n : Module) → Spells ts m → Spells ts n → m �
 
 -- What is read up to the last token is spelled, and where nothing is, nothing is spelled.
 abbrev pub ReadIsSpelled : Type 0
-ReadIsSpelled = (ts : Tokens) (m : Module) → ((«module»).read ts ≡ Some (m, [])) ↔ Spells ts m
+ReadIsSpelled = (ts : Tokens) (m : Module) → ((«module» (nodes_of ts)).read ts ≡ Some (m, [])) ↔ Spells ts m
 
--- The functions of a module go up to the last token, so nothing is left behind a module.
+-- The parts of a module go up to the last token, so nothing is left behind a module.
 abbrev pub ModuleEnds : Type 0
-ModuleEnds = (ts : Tokens) (m : Module) (rest : Tokens) → («module»).Spells ts m rest → rest ≡ []
+ModuleEnds = (nodes : Nodes) (ts : Tokens) (m : Module) (rest : Tokens) → («module» nodes).Spells ts m rest → rest ≡ []
 
 -- # A worked example
 --
@@ -42,6 +44,9 @@ ModuleEnds = (ts : Tokens) (m : Module) (rest : Tokens) → («module»).Spells 
 --   %r = phi i64 [ %n, %entry ], [ %a, %low ]
 --   ret i64 %r
 -- }
+
+abbrev pub no_flags : Flags
+no_flags = record { nuw = false; nsw = false; exact = false }
 
 abbrev pub declare_tokens : Tokens
 declare_tokens = Word (codes "declare") ∷ Word (codes "void") ∷ Global (codes "print_i64") ∷ Sign 40 ∷ Word (codes "i64") ∷ Sign 41 ∷ []

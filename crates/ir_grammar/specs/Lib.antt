@@ -1,5 +1,14 @@
 pub mod Rules
 pub mod Brackets
+pub mod Tables
 pub mod Words
+pub mod Types
+pub mod Past
+pub mod Notes
+pub mod Instructions
+pub mod Terminators
+pub mod Functions
+pub mod Variables
 pub mod Grammar
 pub mod Laws
+pub mod Sentences

@@ -1,4 +1,4 @@
-use Rattle.std.specs.Prelude.{◌≡◌, ℕ, zero, suc, ◌+◌, ◌-◌, ◌*◌, Bool, false, ◌==◌, if◌then◌else◌, List, [], ◌∷◌, length, take, drop, slice_index}
+use Rattle.std.specs.Prelude.{◌≡◌, ℕ, zero, suc, ◌+◌, ◌-◌, ◌*◌, ◌%◌, Bool, false, ◌==◌, if◌then◌else◌, List, [], ◌∷◌, length, take, drop, slice_index}
 use Rattle.std.specs.Char.{digit_value}
 use Rattle.std.specs.Str.Parse.{digits_value}
 use Rattle.ir_lex.specs.declared.token.TokenKind.{TokenKind}
@@ -18,12 +18,12 @@ abbrev pub unquoted : List ℕ → List ℕ
 unquoted name = if slice_index name 0 == 34 then between name else name
 
 -- The bytes that the content of a byte string means. The first number says how many digits the escape before still has
--- to have, the second is the value of those that it has had.
+-- to have, the second is the value of those that it has had, as a byte.
 abbrev pub decoded : ℕ → ℕ → List ℕ → List ℕ
 decoded owed value [] = []
 decoded zero value (b ∷ bs) = if b == 92 then decoded 2 0 bs else b ∷ decoded 0 0 bs
-decoded (suc zero) value (b ∷ bs) = (16 * value + digit_value b) ∷ decoded 0 0 bs
-decoded (suc (suc owed)) value (b ∷ bs) = decoded (suc owed) (16 * value + digit_value b) bs
+decoded (suc zero) value (b ∷ bs) = (16 * value + digit_value b) % 256 ∷ decoded 0 0 bs
+decoded (suc (suc owed)) value (b ∷ bs) = decoded (suc owed) ((16 * value + digit_value b) % 256) bs
 
 abbrev pub is_negative : List ℕ → Bool
 is_negative bytes = slice_index bytes 0 == 45

@@ -63,6 +63,17 @@ impl<'a> Tokens<'a> {
         }
     }
 
+    /// Stands where these tokens stand, and goes on by itself.
+    pub fn fork(&self) -> Tokens<'a>
+        ensures { result ≡ self.now }
+    {
+        Tokens {
+            text: self.text,
+            at: self.at,
+            unlabelled_to: self.unlabelled_to,
+        }
+    }
+
     /// The next token behind blanks and comments, which is the longest that is spelled there, or `None` exactly at the
     /// end of the text.
     ///

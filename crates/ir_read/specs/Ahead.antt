@@ -15,11 +15,19 @@ pub record Ahead : Type 0 where
 abbrev pub behind : Place → List ℕ
 behind place = drop place.at place.text
 
--- what is left of a text, whose first token was looked at already
-abbrev pub tokens_ahead : Option Item → Place → List Token
-tokens_ahead None place = []
-tokens_ahead (Some item) place = token_of item ∷ tokens_of (behind place)
+-- what is left of tokens, whose first one was looked at already, before the others
+abbrev pub tokens_ahead : Option Item → List Token → List Token
+tokens_ahead None others = []
+tokens_ahead (Some item) others = token_of item ∷ others
 
-abbrev pub whole_ahead : Option Item → Bool → Place → Bool
-whole_ahead None broken place = not broken
-whole_ahead (Some item) broken place = is_whole (behind place)
+-- whether these go up to the end, by whether the others do
+abbrev pub whole_ahead : Option Item → Bool → Bool → Bool
+whole_ahead None broken others = not broken
+whole_ahead (Some item) broken others = others
+
+-- the same behind a place of the text
+abbrev pub tokens_behind : Option Item → Place → List Token
+tokens_behind item place = tokens_ahead item (tokens_of (behind place))
+
+abbrev pub whole_behind : Option Item → Bool → Place → Bool
+whole_behind item broken place = whole_ahead item broken (is_whole (behind place))

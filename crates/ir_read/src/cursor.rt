@@ -1,14 +1,23 @@
 //! The tokens of a text that are still to be read.
 
-ghost use Rattle.std.specs.Prelude.{◌≡◌, ◌≤◌, [], ◌∷◌, length, MatchOption};
-ghost use Rattle.ir_grammar.specs.Grammar.{starts_instr};
-ghost use Rattle.ir_grammar.specs.Words.{first_is, any_left, is_word, is_sign, is_local, is_label};
-ghost use Rattle.ir_read.specs.Items.{token_of};
+ghost use Rattle.std.specs.Prelude.{◌≡◌, ◌≤◌, [], ◌∷◌, length, is_some, MatchOption};
 ghost use Rattle.ir_lex.specs.Cut.{tokens_of, is_whole};
-ghost use Rattle.ir_read.specs.Ahead.{behind, tokens_ahead, whole_ahead};
+ghost use Rattle.ir_grammar.specs.Words.{first_is, second_is, behind_comma, any_left, is_word, is_any_word, is_sign, is_mark, is_local, is_label};
+ghost use Rattle.ir_grammar.specs.Types as types;
+ghost use Rattle.ir_grammar.specs.Past as past;
+ghost use Rattle.ir_grammar.specs.Notes as notes;
+ghost use Rattle.ir_grammar.specs.Instructions as instructions;
+ghost use Rattle.ir_read.specs.Items.{token_of};
+ghost use Rattle.ir_read.specs.Ahead.{behind, tokens_behind, whole_behind};
 
+use crate::instr::mark_meaning;
 use crate::item::{Item, item_of};
+use crate::note::head_meaning;
+use crate::past::past_meaning;
+use crate::table::{effect_of, type_of, type_word};
+use ir_grammar::{Marks, Place};
 use ir_lex::{Tokens, cut_is_spelled, tokens_are_cut};
+use ir_tree::Ty;
 use std::marker::Model;
 
 /// The next token of a text and its place; none at the end of the text, or where no token is spelled.
@@ -21,8 +30,8 @@ struct Peeked<'a> {
 }
 
 fn look_ahead<'a>(tokens: &mut Tokens<'a>) -> Peeked<'a>
-    ensures ahead { tokens_ahead result.item tokens.new ≡ tokens_of (behind tokens.old) }
-    ensures whole { whole_ahead result.item result.broken tokens.new ≡ is_whole (behind tokens.old) }
+    ensures ahead { tokens_behind result.item tokens.new ≡ tokens_of (behind tokens.old) }
+    ensures whole { whole_behind result.item result.broken tokens.new ≡ is_whole (behind tokens.old) }
 {
     tokens_are_cut();
     cut_is_spelled();
@@ -45,12 +54,13 @@ fn look_ahead<'a>(tokens: &mut Tokens<'a>) -> Peeked<'a>
     }
 }
 
-/// Goes over the tokens of a text. Contracts see the tokens that are left, up to the end or to a place where none is
-/// spelled, and whether they go up to the end.
+/// Goes over the tokens of a text, the next two of which can be looked at. Contracts see the tokens that are left, up to
+/// the end or to a place where none is spelled, and whether they go up to the end.
 #[derive(Drop)]
 pub(crate) struct Cursor<'a> {
     tokens: Tokens<'a>,
     next: Peeked<'a>,
+    second: Peeked<'a>,
     /// The place of the last token that was asked for.
     at: usize,
     /// No more tokens than this are left.
@@ -59,13 +69,16 @@ pub(crate) struct Cursor<'a> {
 
 impl<'a> Model for Cursor<'a> {
     ghost use Rattle.std.specs.Prelude.{◌≤◌, length};
-    ghost use Rattle.ir_read.specs.Ahead.{Ahead, tokens_ahead, whole_ahead};
+    ghost use Rattle.ir_read.specs.Ahead.{Ahead, tokens_ahead, whole_ahead, tokens_behind, whole_behind};
 
     ghost Value = { Ahead };
 
-    ghost view = { λ c. record { tokens = tokens_ahead c.next.item c.tokens; whole = whole_ahead c.next.item c.next.broken c.tokens } };
+    ghost view = { λ c. record {
+      tokens = tokens_ahead c.next.item (tokens_behind c.second.item c.tokens);
+      whole = whole_ahead c.next.item c.next.broken (whole_behind c.second.item c.second.broken c.tokens);
+    } };
 
-    ghost invariant = { λ c. length (tokens_ahead c.next.item c.tokens) ≤ c.most };
+    ghost invariant = { λ c. length (tokens_ahead c.next.item (tokens_behind c.second.item c.tokens)) ≤ c.most };
 }
 
 impl<'a> Cursor<'a> {
@@ -76,11 +89,26 @@ impl<'a> Cursor<'a> {
         tokens_are_cut();
         let mut tokens = Tokens::new(text);
         let next = look_ahead(&mut tokens);
+        let second = look_ahead(&mut tokens);
         Cursor {
             tokens,
             next,
+            second,
             at: 0,
             most: text.len(),
+        }
+    }
+
+    /// Stands where this cursor stands, and goes on by itself.
+    pub(crate) fn fork(&self) -> Cursor<'a>
+        ensures { result ≡ self.now }
+    {
+        Cursor {
+            tokens: self.tokens.fork(),
+            next: self.next,
+            second: self.second,
+            at: self.at,
+            most: self.most,
         }
     }
 
@@ -92,7 +120,8 @@ impl<'a> Cursor<'a> {
         let item = self.next.item;
         self.at = self.next.at;
         if item.is_some() {
-            self.next = look_ahead(&mut self.tokens);
+            self.next = self.second;
+            self.second = look_ahead(&mut self.tokens);
         }
         item
     }
@@ -136,6 +165,12 @@ impl<'a> Cursor<'a> {
         }
     }
 
+    pub(crate) fn starts_any_word(&self) -> bool
+        ensures { result ≡ first_is is_any_word self.now.tokens }
+    {
+        matches!(self.next.item, Some(Item::Word(_)))
+    }
+
     pub(crate) fn starts_sign(&self, byte: u8) -> bool
         ensures { result ≡ first_is (is_sign byte) self.now.tokens }
     {
@@ -145,26 +180,112 @@ impl<'a> Cursor<'a> {
         }
     }
 
+    pub(crate) fn starts_mark(&self) -> bool
+        ensures { result ≡ first_is is_mark self.now.tokens }
+    {
+        matches!(self.next.item, Some(Item::Mark))
+    }
+
     pub(crate) fn starts_local(&self) -> bool
         ensures { result ≡ first_is is_local self.now.tokens }
     {
         matches!(self.next.item, Some(Item::Local(_)))
     }
 
-    /// An instruction begins with the name of its result, or with the word of one that has none.
-    pub(crate) fn starts_instr(&self) -> bool
-        ensures { result ≡ first_is starts_instr self.now.tokens }
-    {
-        match self.next.item {
-            Some(Item::Local(_)) => true,
-            Some(Item::Word(text)) => text == b"call".as_slice(),
-            _ => false,
-        }
-    }
-
     pub(crate) fn starts_label(&self) -> bool
         ensures { result ≡ first_is is_label self.now.tokens }
     {
         matches!(self.next.item, Some(Item::Label(_)))
+    }
+
+    pub(crate) fn starts_past(&self, place: Place) -> bool
+        ensures { result ≡ first_is (λ t. is_some (past.past_meaning place t)) self.now.tokens }
+    {
+        match self.next.item {
+            Some(item) => past_meaning(place, item).is_some(),
+            None => false,
+        }
+    }
+
+    /// An attribute or attachment of a definition begins here.
+    #[tactic(auto, unfolding(ir_grammar::specs::Notes::head_begins))]
+    pub(crate) fn starts_head(&self) -> bool
+        ensures { result ≡ notes.head_begins self.now.tokens }
+    {
+        match self.next.item {
+            Some(item) => head_meaning(item).is_some(),
+            None => false,
+        }
+    }
+
+    /// One of several words, of which one is marked, stands here.
+    pub(crate) fn starts_marked(&self, which: Marks) -> bool
+        ensures { result ≡ first_is (λ t. is_some (instructions.mark_meaning which t)) self.now.tokens }
+    {
+        match self.next.item {
+            Some(item) => mark_meaning(which, item).is_some(),
+            None => false,
+        }
+    }
+
+    /// An instruction begins here.
+    pub(crate) fn starts_instr(&self) -> bool
+        ensures { result ≡ first_is instructions.starts_instr self.now.tokens }
+    {
+        match self.next.item {
+            Some(Item::Local(_)) => true,
+            Some(Item::Word(text)) => effect_of(text).is_some(),
+            _ => false,
+        }
+    }
+
+    /// This very type stands here.
+    pub(crate) fn starts_type(&self, ty: Ty) -> bool
+        ensures { result ≡ first_is (types.is_type ty) self.now.tokens }
+    {
+        match self.next.item {
+            Some(Item::Word(text)) => text == type_word(ty),
+            _ => false,
+        }
+    }
+
+    /// A comma stands here, and behind it the sign.
+    #[tactic(auto, unfolding(ir_grammar::specs::Words::behind_comma))]
+    pub(crate) fn starts_comma_sign(&self, byte: u8) -> bool
+        ensures { result ≡ behind_comma (is_sign byte) self.now.tokens }
+    {
+        self.starts_sign(b',') && self.second_is_sign(byte)
+    }
+
+    /// A comma stands here, and behind it a type.
+    #[tactic(auto, unfolding(ir_grammar::specs::Words::behind_comma))]
+    pub(crate) fn starts_comma_type(&self) -> bool
+        ensures { result ≡ behind_comma instructions.is_type_word self.now.tokens }
+    {
+        self.starts_sign(b',') && self.second_is_type()
+    }
+
+    fn second_is_type(&self) -> bool
+        ensures { result ≡ second_is instructions.is_type_word self.now.tokens }
+    {
+        match self.next.item {
+            Some(_) => match self.second.item {
+                Some(Item::Word(text)) => type_of(text).is_some(),
+                _ => false,
+            },
+            None => false,
+        }
+    }
+
+    pub(crate) fn second_is_sign(&self, byte: u8) -> bool
+        ensures { result ≡ second_is (is_sign byte) self.now.tokens }
+    {
+        match self.next.item {
+            Some(_) => match self.second.item {
+                Some(Item::Sign(sign)) => sign == byte,
+                _ => false,
+            },
+            None => false,
+        }
     }
 }

@@ -3,22 +3,30 @@
 //! that it reads what the production reads.
 #![tactic(auto)]
 
-mod block;
+mod call;
 mod cursor;
+mod decode;
 mod error;
 mod function;
 mod instr;
 mod item;
 mod laws;
+mod memory;
+mod nodes;
+mod note;
 mod operand;
+mod operation;
+mod params;
+mod part;
+mod past;
 mod stop;
+mod table;
 mod term;
 mod text;
+mod types;
+mod variable;
 mod word;
 
 pub use error::ReadError;
 pub use laws::one_module;
 pub use text::read;
-
-#[cfg(test)]
-mod tests;

@@ -1,113 +1,97 @@
-//! Types and operands.
+//! Literals and operands.
 
-ghost use Rattle.std.specs.Prelude.{◌≡◌, ◌+◌, ◌*◌, ◌^◌, ◌≤◌, MatchOption};
-ghost use Rattle.std.specs.Char.{digit_value};
+ghost use Rattle.std.specs.Prelude.{◌≡◌};
 ghost use Rattle.std.specs.Str.Parse.{digits_value};
 ghost use Rattle.ir_tree.specs.Types.{literal_of};
-ghost use Rattle.ir_grammar.specs.Grammar as grammar;
+ghost use Rattle.ir_grammar.specs.Types as grammar;
 ghost use Rattle.ir_read.specs.Reads.{Reads};
 
 use crate::cursor::Cursor;
 use crate::item::Item;
 use crate::stop::Stop;
-use ir_tree::{Name, Operand, Ret, Ty};
+use crate::types::value_type;
+use crate::word::decimal;
+use ir_tree::{Name, Operand, Ty};
 use std::alloc::Global;
 
-/// The type that a word names.
-fn type_of(text: &[u8]) -> Option<Ty>
-    ensures { result ≡ grammar.type_of text.now }
+/// The literal of the type that these digits are.
+pub(crate) fn literal_of(ty: Ty, minus: bool, digits: &[u8]) -> Option<u64>
+    ensures { result ≡ literal_of ty minus (digits_value 10 digits.now) }
 {
-    if text == b"i64".as_slice() {
-        Some(Ty::I64)
+    ty.literal(minus, decimal(digits)?)
+}
+
+/// `true` and `false`.
+fn truth_of(text: &[u8]) -> Option<u64>
+    ensures { result ≡ grammar.truth_of text.now }
+{
+    if text == b"true".as_slice() {
+        Some(1)
+    } else if text == b"false".as_slice() {
+        Some(0)
     } else {
         None
     }
 }
 
-/// A type.
-#[tactic(auto, unfolding(ir_grammar::specs::Grammar::value_type))]
-pub(crate) fn value_type(toks: &mut Cursor) -> Result<Ty, Stop>
-    ensures { Reads result toks.old toks.new grammar.value_type.read }
+/// The literal of the type that a word is.
+pub(crate) fn literal_word(ty: Ty, text: &[u8]) -> Option<u64>
+    ensures { result ≡ grammar.literal_word ty text.now }
+{
+    match ty {
+        Ty::I1 => truth_of(text),
+        Ty::I8 | Ty::I16 | Ty::I32 | Ty::I64 | Ty::Ptr => None,
+    }
+}
+
+/// A literal of the type.
+#[tactic(auto, unfolding(ir_grammar::specs::Types::literal))]
+pub(crate) fn literal(toks: &mut Cursor, ty: Ty) -> Result<u64, Stop>
+    ensures { Reads result toks.old toks.new (grammar.literal ty).read }
 {
     match toks.next() {
-        Some(Item::Word(text)) => type_of(text).ok_or(Stop::Syntax),
+        Some(Item::Number { minus, digits }) => literal_of(ty, minus, digits).ok_or(Stop::Syntax),
+        Some(Item::Word(text)) => literal_word(ty, text).ok_or(Stop::Syntax),
         _ => Err(Stop::Syntax),
     }
 }
 
-/// What a function returns.
-fn return_of(text: &[u8]) -> Option<Ret>
-    ensures { result ≡ grammar.return_of text.now }
+/// The operand of the type that a word is.
+fn operand_word(ty: Ty, text: &[u8]) -> Option<Operand>
+    ensures { result ≡ grammar.operand_word ty text.now }
 {
-    if text == b"void".as_slice() {
-        Some(Ret::Void)
-    } else {
-        match type_of(text) {
-            Some(ty) => Some(Ret::Value(ty)),
-            None => None,
-        }
+    if text == b"null".as_slice() {
+        return Some(Operand::Null);
+    }
+    match literal_word(ty, text) {
+        Some(value) => Some(Operand::Int(value)),
+        None => None,
     }
 }
 
-/// A return type.
-#[tactic(auto, unfolding(ir_grammar::specs::Grammar::return_type))]
-pub(crate) fn return_type(toks: &mut Cursor) -> Result<Ret, Stop>
-    ensures { Reads result toks.old toks.new grammar.return_type.read }
-{
-    match toks.next() {
-        Some(Item::Word(text)) => return_of(text).ok_or(Stop::Syntax),
-        _ => Err(Stop::Syntax),
-    }
-}
-
-/// The value of a digit, 36 for a byte that is none in any radix.
-fn value_of_digit(byte: u8) -> u32
-    ensures { result ≡ digit_value byte }
-{
-    char::from(byte).to_digit(36).unwrap_or(36)
-}
-
-/// The number with one decimal digit more; none from 2^64 on.
-fn append(value: u64, digit: u8) -> Option<u64>
-    ensures { MatchOption result (2 ^ 64 ≤ value * 10 + digit_value digit) (λ n. n ≡ value * 10 + digit_value digit) }
-{
-    value
-        .checked_mul(10)?
-        .checked_add(u64::from(value_of_digit(digit)))
-}
-
-/// The number that decimal digits write; none from 2^64 on.
-fn decimal(digits: &[u8]) -> Option<u64>
-    ensures { MatchOption result (2 ^ 64 ≤ digits_value 10 digits.now) (λ n. n ≡ digits_value 10 digits.now) }
-{
-    let mut value = 0u64;
-    for digit in digits {
-        match append(value, *digit) {
-            Some(more) => value = more,
-            None => return None,
-        }
-    }
-    Some(value)
-}
-
-/// A local or a literal of the type.
-#[tactic(auto, unfolding(ir_grammar::specs::Grammar::operand))]
+/// A local, a global, `null` or a literal of the type.
+#[tactic(auto, unfolding(ir_grammar::specs::Types::operand))]
 pub(crate) fn operand(alloc: Global, toks: &mut Cursor, ty: Ty) -> Result<Operand, Stop>
     ensures { Reads result toks.old toks.new (grammar.operand ty).read }
 {
     match toks.next() {
         Some(Item::Local(name)) => Ok(Operand::Local(Name::of(alloc, name)?)),
+        Some(Item::Global(name)) => Ok(Operand::Global(Name::of(alloc, name)?)),
         Some(Item::Number { minus, digits }) => match literal_of(ty, minus, digits) {
             Some(value) => Ok(Operand::Int(value)),
             None => Err(Stop::Syntax),
         },
+        Some(Item::Word(text)) => operand_word(ty, text).ok_or(Stop::Syntax),
         _ => Err(Stop::Syntax),
     }
 }
 
-/// The literal of the type that these digits are.
-fn literal_of(ty: Ty, minus: bool, digits: &[u8]) -> Option<u64>
-    ensures { result ≡ literal_of ty minus (digits_value 10 digits.now) }
+/// A type and an operand of it.
+#[tactic(auto, unfolding(ir_grammar::specs::Types::typed_operand))]
+pub(crate) fn typed_operand(alloc: Global, toks: &mut Cursor) -> Result<(Ty, Operand), Stop>
+    ensures { Reads result toks.old toks.new grammar.typed_operand.read }
 {
-    ty.literal(minus, decimal(digits)?)
+    let ty = value_type(toks)?;
+    let value = operand(alloc, toks, ty)?;
+    Ok((ty, value))
 }

@@ -2,33 +2,55 @@
 
 ghost use Rattle.std.specs.Prelude.{◌≡◌, ◌≤◌, length, IfOk, IfErr};
 ghost use Rattle.ir_tree.specs.declared.types.Module.{Module};
-ghost use Rattle.ir_grammar.specs.Grammar as grammar;
-ghost use Rattle.ir_read.specs.Reads.{Reads};
+ghost use Rattle.ir_lex.specs.Cut.{tokens_of, is_whole};
+ghost use Rattle.ir_grammar.specs.Notes.{nodes_of};
 ghost use Rattle.ir_read.specs.Spelled.{SpellsText, Refuses, most_bytes};
 
 use crate::cursor::Cursor;
 use crate::error::ReadError;
-use crate::function::functions;
 use crate::laws::one_module;
+use crate::nodes::Nodes;
+use crate::part::module;
 use crate::stop::Stop;
 use ir_grammar::module_ends;
 use ir_lex::cut_is_spelled;
-use ir_tree::{Module, Seq};
+use ir_tree::Module;
 use std::alloc::Global;
 
 /// The most bytes that a text has.
 const MOST_BYTES: usize = 16_777_216;
 
-/// A module, up to the last token.
-#[tactic(auto, unfolding(ir_grammar::specs::Grammar::module))]
-fn module(alloc: Global, toks: &mut Cursor) -> Result<Module, Stop>
-    ensures { Reads result toks.old toks.new grammar.«module».read }
+/// The module that the tokens of a text spell.
+fn module_of(
+    alloc: Global,
+    text: &[u8],
+    toks: &mut Cursor,
+    nodes: &mut Nodes,
+) -> Result<Module, ReadError>
+    requires within { length text.now ≤ most_bytes }
+    requires tokens { toks.old.tokens ≡ tokens_of text.now }
+    requires whole { toks.old.whole ≡ is_whole text.now }
+    requires nodes { nodes.old ≡ nodes_of (tokens_of text.now) }
+    ensures found { IfOk result (λ m. SpellsText text.now m) }
+    ensures refused { IfErr result (λ error. Refuses text.now error) }
 {
-    let functions = functions(alloc, toks)?;
-    Ok(Module {
-        globals: Seq::of(Vec::new(alloc)),
-        functions,
-    })
+    cut_is_spelled();
+    module_ends();
+    match module(alloc, toks, nodes) {
+        Ok(module) => {
+            if toks.is_whole() {
+                Ok(module)
+            } else {
+                Err(ReadError::Syntax {
+                    at: toks.next_at().min(text.len()),
+                })
+            }
+        }
+        Err(Stop::Syntax) => Err(ReadError::Syntax {
+            at: toks.at().min(text.len()),
+        }),
+        Err(Stop::NoMemory) => Err(ReadError::NoMemory),
+    }
 }
 
 /// The module that the text spells.
@@ -45,22 +67,7 @@ pub fn read(alloc: Global, text: &[u8]) -> Result<Module, ReadError>
     if text.len() > MOST_BYTES {
         return Err(ReadError::TextLimit { length: text.len() });
     }
-    cut_is_spelled();
-    module_ends();
     let mut toks = Cursor::new(text);
-    match module(alloc, &mut toks) {
-        Ok(module) => {
-            if toks.is_whole() {
-                Ok(module)
-            } else {
-                Err(ReadError::Syntax {
-                    at: toks.next_at().min(text.len()),
-                })
-            }
-        }
-        Err(Stop::Syntax) => Err(ReadError::Syntax {
-            at: toks.at().min(text.len()),
-        }),
-        Err(Stop::NoMemory) => Err(ReadError::NoMemory),
-    }
+    let mut nodes = Nodes::new(text);
+    module_of(alloc, text, &mut toks, &mut nodes)
 }

@@ -1,11 +1,12 @@
 use Rattle.std.proofs.Common.{◌≡◌, suc, ◌-◌, length}
 use Rattle.ir_grammar.specs.Rules.{many_from}
 use Rattle.ir_grammar.specs.Words.{first_is, is_label}
-use Rattle.ir_grammar.specs.Grammar.{block}
+use Rattle.ir_grammar.specs.Functions.{block}
 use Rattle.ir_read.proofs.function.more_blocks.Given as goal
 
 abbrev pub invariant-loop-turn : goal.invariant-loop-turn
 invariant-loop-turn l = record {
-  reads : many_from (first_is is_label) block (suc (length l.fn.toks.tokens)) l.fn.found.items l.fn.toks.tokens ≡ many_from (first_is is_label) block (suc l._turn-end - l._turn) l.found.items l.toks.tokens;
+  reads : many_from (first_is is_label) (block l.fn.nodes) (suc (length l.fn.toks.tokens)) l.fn.found.items l.fn.toks.tokens ≡ many_from (first_is is_label) (block l.fn.nodes) (suc l._turn-end - l._turn) l.found.items l.toks.tokens;
   whole : l.toks.whole ≡ l.fn.toks.whole;
+  same : l.nodes ≡ l.fn.nodes;
 }

@@ -1,0 +1,11 @@
+use Rattle.std.proofs.Common.{◌≡◌, suc, ◌-◌, length}
+use Rattle.ir_grammar.specs.Rules.{many_from}
+use Rattle.ir_grammar.specs.Words.{first_is, is_sign, comma_item}
+use Rattle.ir_grammar.specs.Functions.{declared_parameter}
+use Rattle.ir_read.proofs.function.more_declared.Given as goal
+
+abbrev pub invariant-loop-turn : goal.invariant-loop-turn
+invariant-loop-turn l = record {
+  reads : many_from (first_is (is_sign 44)) (comma_item declared_parameter) (suc (length l.fn.toks.tokens)) l.fn.found.items l.fn.toks.tokens ≡ many_from (first_is (is_sign 44)) (comma_item declared_parameter) (suc l._turn-end - l._turn) l.found.items l.toks.tokens;
+  whole : l.toks.whole ≡ l.fn.toks.whole;
+}

@@ -1,0 +1,12 @@
+use Rattle.std.proofs.Common.{◌≡◌, suc, ◌-◌, [], length}
+use Rattle.ir_grammar.specs.Rules.{many_from}
+use Rattle.ir_grammar.specs.Words.{first_is}
+use Rattle.ir_grammar.specs.Instructions.{starts_instr, instr}
+use Rattle.ir_read.proofs.instr.instrs.Given as goal
+
+abbrev pub invariant-loop-turn : goal.invariant-loop-turn
+invariant-loop-turn l = record {
+  reads : many_from (first_is starts_instr) (instr l.fn.nodes) (suc (length l.fn.toks.tokens)) [] l.fn.toks.tokens ≡ many_from (first_is starts_instr) (instr l.fn.nodes) (suc l._turn-end - l._turn) l.found.items l.toks.tokens;
+  whole : l.toks.whole ≡ l.fn.toks.whole;
+  same : l.nodes ≡ l.fn.nodes;
+}

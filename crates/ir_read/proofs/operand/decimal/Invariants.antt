@@ -1,6 +1,0 @@
-use Rattle.std.proofs.Common.{◌≡◌, drop}
-use Rattle.std.specs.Str.Parse.{digits_value_after}
-use Rattle.ir_read.proofs.operand.decimal.Given as goal
-
-abbrev pub invariant-loop-digit : goal.invariant-loop-digit
-invariant-loop-digit l = digits_value_after 10 0 l.digits ≡ digits_value_after 10 l.value (drop l.digit-index l.digits)

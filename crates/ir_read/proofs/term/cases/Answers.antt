@@ -1,0 +1,21 @@
+use Rattle.std.proofs.Common.{◌≡◌, ◌≤◌, true, [], refl, ◌∙◌, arith, rules}
+use Rattle.ir_read.proofs.Loops.{many_begin, many_next}
+use Rattle.ir_grammar.specs.Words.{first_is}
+use Rattle.ir_grammar.specs.Types.{is_type}
+use Rattle.ir_grammar.specs.Terminators.{case, case_takes}
+use Rattle.ir_read.proofs.term.cases.Goals as goal
+
+pub loop-turn-init : goal.loop-turn-init
+loop-turn-init c = record {
+  reads = many_begin (first_is (is_type c.args.ty)) (case c.args.ty) (case_takes c.args.ty) [] c.new-found.result.items c.args.toks.now.tokens c.left-turn-end.result c.left-turn-end.ensures c.new-found.ensures.items;
+  whole = refl;
+}
+
+pub loop-turn-preserved : goal.loop-turn-preserved
+loop-turn-preserved c =
+    let h : c.loop-turn._turn ≤ c.left-turn-end.result = omega arith in
+    let b : (first_is (is_type c.args.ty)) c.loop-turn.toks.tokens ≡ true = first_of (cc, search rules) in
+    record {
+      reads = c.loop-turn.invariant.reads ∙ many_next (first_is (is_type c.args.ty)) (case c.args.ty) c.left-turn-end.result c.loop-turn._turn c.loop-turn.found.items c.push.new.self.items c.loop-turn.toks.tokens c.in_ok-case.field-0 c.case.new.toks.tokens h b c.in_ok-case.ensures.0 c.in_ok-push.ensures.items;
+      whole = c.in_ok-case.ensures.1 ∙ c.loop-turn.invariant.whole;
+    }
