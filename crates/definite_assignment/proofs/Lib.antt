@@ -1,0 +1,4 @@
+mod Narrows
+mod Opened
+mod Small
+mod Turns

@@ -1,0 +1,4 @@
+pub mod Assigned
+pub mod Chunks
+pub mod Narrowing
+pub mod Uses

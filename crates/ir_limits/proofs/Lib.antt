@@ -1,0 +1,4 @@
+pub mod Firsts
+pub mod Literals
+pub mod OverLists
+pub mod Sizes

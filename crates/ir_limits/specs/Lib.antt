@@ -1,0 +1,4 @@
+pub mod Objects
+pub mod Passed
+pub mod Sites
+pub mod Tally

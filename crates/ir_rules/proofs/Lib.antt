@@ -1,0 +1,14 @@
+pub mod Counts
+pub mod Deciding
+pub mod Finding
+pub mod Formed
+pub mod Given
+pub mod HeldTied
+pub mod Labelled
+pub mod Members
+pub mod NamesTied
+pub mod PartsKept
+pub mod Phis
+pub mod Small
+pub mod Uses
+pub mod WalksTied
