@@ -1,0 +1,13 @@
+pub mod Law
+pub mod Leaving
+pub mod Instrs
+pub mod Items
+pub mod Labels
+pub mod Modules
+pub mod Pieces
+pub mod Renamed
+pub mod Rows
+pub mod Setting
+pub mod Simulation
+pub mod Values
+pub mod Watched
