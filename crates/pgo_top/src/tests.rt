@@ -189,7 +189,10 @@ fn check_prints_the_kind(rt: HostRuntime) -> Result<(), Fail> {
     assert_eq!(rt; ended.out.bytes(), b"plain\n".as_slice());
     let ended = of_words(&rt, alloc, &["check", "m.ll"], b"nothing")?;
     assert_eq!(rt; ended.status, Status::Refused);
-    assert_eq!(rt; ended.err.bytes(), b"pgo: m.ll: not built\n".as_slice());
+    assert_eq!(rt;
+        ended.err.bytes(),
+        b"pgo: m.ll: syntax at byte 0\n".as_slice()
+    );
     Ok(())
 }
 
@@ -250,18 +253,24 @@ e: ret void
 }
 
 #[test]
-fn a_text_that_is_no_program_is_not_built(rt: HostRuntime) -> Result<(), Fail> {
+fn a_text_that_is_no_program_is_refused(rt: HostRuntime) -> Result<(), Fail> {
     let alloc = rt.alloc();
-    let texts: [&[u8]; 3] = [
-        b"define i8 @b() {\ne: ret i8 1\n}\n",
-        b"target triple = \"x86",
-        b"define i64 @f() {\ne: ret i64 %x\n}\n",
+    let texts: [(&[u8], &[u8]); 3] = [
+        (b"target triple = \"x86", b"pgo: m.ll: syntax at byte 16\n"),
+        (
+            b"define i8 @b() {\ne: ret i8 1\n}\n",
+            b"pgo: m.ll: not built\n",
+        ),
+        (
+            b"define i64 @f() {\ne: ret i64 %x\n}\n",
+            b"pgo: m.ll: not built\n",
+        ),
     ];
-    for text in texts {
+    for (text, line) in texts {
         let ended = run(&rt, alloc, text, b"@b", Vec::new(alloc))?;
         assert_eq!(rt; ended.status, Status::Refused);
         assert_eq!(rt; ended.out.bytes(), b"".as_slice());
-        assert_eq!(rt; ended.err.bytes(), b"pgo: m.ll: not built\n".as_slice());
+        assert_eq!(rt; ended.err.bytes(), line);
     }
     Ok(())
 }
