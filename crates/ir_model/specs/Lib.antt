@@ -1,4 +1,4 @@
-pub mod Sizes
+pub use Rattle.ir_tree.specs.Sizes
 pub mod State
 pub mod Values
 pub mod Initial

@@ -10,6 +10,7 @@ pub mod Names
 pub mod Operands
 pub mod Phis
 pub mod Reach
+pub mod Sizes
 pub mod Spelling
 pub mod Successors
 pub mod Types
