@@ -114,7 +114,7 @@ free_first (x ∷ xs) b block at h e =
     let is : x ≡ block = same_Some x block (ap (λ (k : ℕ). slice_get (x ∷ xs) k) (sym e) ∙ at) in
     subst (λ (y : Block). no_phis y.instrs ≡ true) is h
 
-matched_entries : (blocks : List Block) (l : Name) (o : Option Entries) (es : Entries) → o ≡ Some es → are_matched_if_any blocks l o ≡ true → Matched blocks l es
+pub matched_entries : (blocks : List Block) (l : Name) (o : Option Entries) (es : Entries) → o ≡ Some es → are_matched_if_any blocks l o ≡ true → Matched blocks l es
 matched_entries blocks l None es e h = absurd (none-some es e)
 matched_entries blocks l (Some ds) es e h = subst (λ (ls : Entries). Matched blocks l ls) (same_Some ds es e) (matched blocks l ds h)
 

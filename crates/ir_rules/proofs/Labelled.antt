@@ -66,7 +66,7 @@ has_position l (x ∷ xs) (inr at) = by (same l x) refl (has_position l xs at)
     by true e rest = (0, position_here l x xs e)
     by false e rest = (suc rest.0, position_behind l x xs e ∙ ap (λ (o : Option ℕ). option_map suc o) rest.1)
 
-stands_often : (l : Name) (xs : List Name) (a : ℕ) → slice_get xs a ≡ Some l → 1 ≤ times l xs
+pub stands_often : (l : Name) (xs : List Name) (a : ℕ) → slice_get xs a ≡ Some l → 1 ≤ times l xs
 stands_often l [] a h = absurd (none-some l h)
 stands_often l (x ∷ xs) zero h =
     let is : x ≡ l = same_Some x l h in

@@ -9,6 +9,7 @@ pub mod Members
 pub mod NamesTied
 pub mod PartsKept
 pub mod Phis
+pub mod Resolved
 pub mod Small
 pub mod Uses
 pub mod WalksTied

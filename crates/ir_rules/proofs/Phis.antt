@@ -119,7 +119,7 @@ never n (x ∷ xs) h = by (same n x) refl h (λ k. never n xs k)
     by true e k rest = absurd (cc)
     by false e k rest = let here : one n x ≡ 0 = ap (λ (b : Bool). cond {A = ℕ} b 1 0) e in omega (arith, here, rest k, times_cons n x xs)
 
-no_positions : (n l : Name) (blocks : List Block) → is_among n (map (λ (b : Block). b.label) blocks) ≡ false → positions n l blocks ≡ 0
+pub no_positions : (n l : Name) (blocks : List Block) → is_among n (map (λ (b : Block). b.label) blocks) ≡ false → positions n l blocks ≡ 0
 no_positions n l [] h = refl
 no_positions n l (b ∷ bs) h = by (same n b.label) refl h (λ k. no_positions n l bs k)
   where

@@ -20,9 +20,10 @@ pub mod Parts
 pub mod PhiEntries
 pub mod PhiPlaces
 pub mod Reserved
+pub mod Resolved
 pub mod Returning
 pub mod Scopes
-pub mod Sizes
+pub use Rattle.ir_tree.specs.Sizes
 pub mod Targets
 pub mod Typing
 pub mod Units

@@ -3,6 +3,7 @@ ghost use Rattle.std.specs.Prelude.{◌≡◌, ◌↔◌, []};
 ghost use Rattle.ir_rules.specs.Accepted.{AcceptedAreSmall, EdgesHaveEntries, FunctionsHaveGraphs, FunctionsHaveNumbers, PlainAreSmall};
 ghost use Rattle.ir_rules.specs.AllRules.{all_broken};
 ghost use Rattle.ir_rules.specs.Finding.{GiversDecide, LookUpsTell, RegistersAreFound};
+ghost use Rattle.ir_rules.specs.Resolved.{KeptAreResolved};
 ghost use Rattle.ir_rules.specs.WellFormed.{IsWellFormed};
 ghost use Rattle.ir_tree.specs.declared.types.Module.{Module};
 
@@ -43,4 +44,9 @@ pub fn look_ups_tell()
     ensures names { LookUpsTell }
     ensures givers { GiversDecide }
     ensures registers { RegistersAreFound }
+{}
+
+/// Look-ups resolve the operands and entries of a defined function that keeps the rules on names, operands and entries of phis.
+pub fn kept_are_resolved()
+    ensures { KeptAreResolved }
 {}

@@ -6,6 +6,6 @@ mod place;
 
 pub use laws::{
     accepted_are_small, edges_have_entries, functions_have_graphs, functions_have_numbers,
-    look_ups_tell, well_formed_breaks_none,
+    kept_are_resolved, look_ups_tell, well_formed_breaks_none,
 };
 pub use place::{Kind, LimitKind, Place};
