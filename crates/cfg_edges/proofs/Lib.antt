@@ -1,5 +1,6 @@
 pub mod Built
 pub mod Cuts
+pub mod Firsts
 pub mod HashText
 pub mod Listed
 pub mod Members

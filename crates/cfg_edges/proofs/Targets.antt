@@ -9,12 +9,11 @@ use Rattle.std.proofs.lemmas.List.Quantifiers.{position-Some}
 use Rattle.std.proofs.lemmas.Option.{none-some, same_Some, slice_get-map, slice_get-get_or}
 use Rattle.ir_tree.specs.Reach.{row, AreRows}
 use Rattle.ir_tree.specs.Names.{same, Indexes}
-use Rattle.ir_tree.specs.Successors.{successors}
 use Rattle.ir_tree.specs.declared.index.Index.{Index}
 use Rattle.ir_tree.specs.declared.types.Block.{Block}
 use Rattle.ir_tree.specs.declared.types.Function.{Function}
 use Rattle.ir_tree.specs.Edges.{labels, block_place, row_of, rows}
-use Rattle.cfg_edges.specs.Blocks.{found_all, HasFewPlaces}
+use Rattle.cfg_edges.specs.Blocks.{HasFewPlaces}
 use Rattle.ir_tree.specs.Edges.{block_edges, edges_out_of}
 use Rattle.ir_tree.specs.declared.edge.Edge.{Edge}
 use Rattle.ir_tree.specs.Graphs.{ways_out, has_targets, HasGraph}
@@ -25,9 +24,6 @@ abbrev pub place : List Block → List ℕ → ℕ
 place blocks to = unwrap_or (block_place blocks to) 0
 
 -- ---- by the index of the labels
-
-pub rows_found : (index : Index) (blocks : List Block) → Indexes index (labels blocks) → map (λ block. found_all index (successors block.term)) blocks ≡ rows blocks
-rows_found index blocks made = λ i. map (λ block. map (λ to. unwrap_or (made to i) 0) (successors block.term)) blocks
 
 pub few_places : (index : Index) (blocks : List Block) → Indexes index (labels blocks) → length blocks < 4294967296 → HasFewPlaces index
 few_places index blocks made few name b at =

@@ -5,6 +5,7 @@
 mod edges;
 mod graph;
 mod hash;
+mod labels;
 mod laws;
 mod nodes;
 mod places;
@@ -14,6 +15,7 @@ pub use graph::Graph;
 pub use hash::function_hash;
 pub use ir_tree::Edge;
 pub use laws::graphs_stand;
+pub use rows::rows_of;
 
 #[cfg(test)]
 mod tests;

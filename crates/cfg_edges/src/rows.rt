@@ -1,83 +1,83 @@
-// The successors of each block by number: labels are found by an index.
-ghost use Rattle.std.specs.Prelude.{◌≡◌, ◌<◌, ◌++◌, length, map, IfOk, OnOk};
-ghost use Rattle.cfg_edges.specs.Blocks.{HasFewPlaces, found, found_all};
-ghost use Rattle.ir_tree.specs.Edges.{labels, rows};
-ghost use Rattle.ir_tree.specs.Names.{Indexes};
+// The successors of each block by number.
+ghost use Rattle.std.specs.Prelude.{◌≡◌, ◌<◌, ◌++◌, ◌∷◌, [], length, map, IfOk, OnOk};
+ghost use Rattle.cfg_edges.specs.Blocks.{place_in, places_in};
+ghost use Rattle.ir_tree.specs.Edges.{rows};
 ghost use Rattle.ir_tree.specs.Successors.{successors};
 
+use crate::labels::Labels;
 use block_search::Rows;
-use ir_tree::{Block, Index, Name, Term};
+use ir_tree::{Block, Name, Term};
 use pgo_base::NoMemory;
 use std::alloc::Global;
 
-// The successors of each block.
-pub(crate) fn rows_of(alloc: Global, blocks: &[Block]) -> Result<Rows, NoMemory>
+/// The successors of each block by their numbers. A label that no block has counts as the entry.
+pub fn rows_of(alloc: Global, blocks: &[Block]) -> Result<Rows, NoMemory>
     requires { length blocks.now < 4294967296 }
     ensures { IfOk result (λ made. made ≡ rows blocks.now) }
 {
-    let index = index_of(alloc, blocks)?;
-    rows_by(alloc, &index, blocks)
-}
-
-fn index_of(alloc: Global, blocks: &[Block]) -> Result<Index, NoMemory>
-    ensures { IfOk result (λ index. Indexes index (labels blocks.now)) }
-{
-    let mut index = Index::with_room(alloc, blocks.len())?;
-    for (b, block) in blocks.iter().enumerate() {
-        index.add(alloc, block.label.bytes(), b)?;
-    }
-    Ok(index)
-}
-
-fn rows_by(alloc: Global, index: &Index, blocks: &[Block]) -> Result<Rows, NoMemory>
-    requires { HasFewPlaces index.now }
-    ensures { IfOk result (λ made. made ≡ map (λ block. found_all index.now (successors block.term)) blocks.now) }
-{
+    let mut labels = Labels::of(alloc, blocks)?;
     let mut ends = Vec::with_capacity(alloc, blocks.len())?;
     let mut targets = Vec::new(alloc);
     for block in blocks {
-        push_targets(index, &block.term, &mut targets)?;
+        let number = ends.len();
+        push_targets(alloc, &mut labels, number, &block.term, &mut targets)?;
         ends.push(targets.len())?;
     }
     Ok(Rows::of(ends, targets))
 }
 
-// Appends the successors of a terminator.
-fn push_targets(index: &Index, term: &Term, targets: &mut Vec<u32>) -> Result<(), NoMemory>
-    requires { HasFewPlaces index.now }
-    ensures { OnOk result (targets.new.items ≡ targets.old.items ++ found_all index.now (successors term.now)) }
+// Appends the successors of the terminator of a block.
+fn push_targets(
+    alloc: Global,
+    labels: &mut Labels<'_>,
+    block: usize,
+    term: &Term,
+    targets: &mut Vec<u32>,
+) -> Result<(), NoMemory>
+    ensures pushed { OnOk result (targets.new.items ≡ targets.old.items ++ places_in labels.old.blocks.now (successors term.now)) }
+    ensures same { labels.new.blocks ≡ labels.old.blocks }
 {
     match term {
-        Term::Br { to } => targets.push(find(index, to))?,
+        Term::Br { to } => push_target(alloc, labels, block, to, targets),
         Term::CondBr { yes, no, .. } => {
-            targets.push(find(index, yes))?;
-            targets.push(find(index, no))?;
+            push_target(alloc, labels, block, yes, targets)?;
+            push_target(alloc, labels, block, no, targets)
         }
         Term::Switch { default, cases, .. } => {
-            targets.push(find(index, default))?;
-            push_cases(index, cases.as_slice(), targets)?;
+            push_target(alloc, labels, block, default, targets)?;
+            push_cases(alloc, labels, block, cases.as_slice(), targets)
         }
-        Term::Ret { .. } | Term::Unreachable => {}
+        Term::Ret { .. } | Term::Unreachable => Ok(()),
     }
-    Ok(())
 }
 
-fn push_cases(index: &Index, cases: &[(u64, Name)], blocks: &mut Vec<u32>) -> Result<(), NoMemory>
-    requires { HasFewPlaces index.now }
-    ensures { OnOk result (blocks.new.items ≡ blocks.old.items ++ found_all index.now (map (λ c. c.1) cases.now)) }
+fn push_cases(
+    alloc: Global,
+    labels: &mut Labels<'_>,
+    block: usize,
+    cases: &[(u64, Name)],
+    targets: &mut Vec<u32>,
+) -> Result<(), NoMemory>
+    ensures pushed { OnOk result (targets.new.items ≡ targets.old.items ++ places_in labels.old.blocks.now (map (λ c. c.1) cases.now)) }
+    ensures same { labels.new.blocks ≡ labels.old.blocks }
 {
     for (_, to) in cases {
-        blocks.push(find(index, to))?;
+        push_target(alloc, labels, block, to, targets)?;
     }
     Ok(())
 }
 
-fn find(index: &Index, label: &Name) -> u32
-    requires { HasFewPlaces index.now }
-    ensures { result ≡ found index.now label.now }
+fn push_target(
+    alloc: Global,
+    labels: &mut Labels<'_>,
+    block: usize,
+    label: &Name,
+    targets: &mut Vec<u32>,
+) -> Result<(), NoMemory>
+    ensures pushed { OnOk result (targets.new.items ≡ targets.old.items ++ place_in labels.old.blocks.now label.now ∷ []) }
+    ensures same { labels.new.blocks ≡ labels.old.blocks }
 {
-    match index.find(label.bytes()) {
-        Some(b) => b as u32,
-        None => 0,
-    }
+    let place = labels.place_of(alloc, block, targets.as_slice(), label)?;
+    targets.push(place)?;
+    Ok(())
 }

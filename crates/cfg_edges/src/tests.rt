@@ -6,8 +6,9 @@ ghost use Rattle.ir_tree.specs.Blocks as blocks;
 ghost use Rattle.ir_tree.specs.Graphs.{HasGraph};
 ghost use Rattle.ir_tree.specs.declared.types.Term.TheVariants as term;
 
-use crate::{Edge, Graph, function_hash};
+use crate::{Edge, Graph, function_hash, rows_of};
 use ir_tree::{Block, Function, Instr, Name, Operand, Ret, Seq, Term, Ty};
+use itoa::Buffer;
 use pgo_base::NoMemory;
 use std::alloc::Global;
 use std::test::Fail;
@@ -235,5 +236,36 @@ fn what_a_block_has_that_nothing_leads_to_is_left_out(rt: HostRuntime) -> Result
         function_hash(alloc, &graph, 2, false)?,
         9_582_453_768_143_320_800
     );
+    Ok(())
+}
+
+fn numbered(alloc: Global, number: u32) -> Result<Name, NoMemory> {
+    name(alloc, Buffer::new().format(number).as_bytes())
+}
+
+// So many blocks, of which each leads to the next, and one more, which leads back to the fourth.
+fn chain(alloc: Global, count: u32) -> Result<Vec<Block>, NoMemory> {
+    let mut blocks = Vec::new(alloc);
+    for number in 0..count {
+        let label = numbered(alloc, number)?;
+        let to = numbered(alloc, number + 1)?;
+        blocks.push(block(alloc, label.bytes(), Term::Br { to })?)?;
+    }
+    let label = numbered(alloc, count)?;
+    let to = numbered(alloc, 3)?;
+    blocks.push(block(alloc, label.bytes(), Term::Br { to })?)?;
+    Ok(blocks)
+}
+
+#[test]
+fn labels_of_many_blocks_are_found(rt: HostRuntime) -> Result<(), Fail> {
+    let alloc = rt.alloc();
+    let blocks = chain(alloc, 10_000)?;
+    assert_eq!(rt; blocks.len(), 10_001);
+    let rows = rows_of(alloc, blocks.as_slice())?;
+    assert_eq!(rt; rows.len(), 10_001);
+    assert_eq!(rt; rows.row(0), [1].as_slice());
+    assert_eq!(rt; rows.row(9_999), [10_000].as_slice());
+    assert_eq!(rt; rows.row(10_000), [3].as_slice());
     Ok(())
 }
