@@ -1,0 +1,4 @@
+pub mod Decided
+pub mod InBlocks
+pub mod OneMore
+pub mod Placed

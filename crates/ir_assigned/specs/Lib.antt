@@ -1,0 +1,3 @@
+pub mod Exposed
+pub mod Reads
+pub mod Unready
