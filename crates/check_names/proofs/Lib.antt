@@ -1,0 +1,13 @@
+pub mod Arrays
+pub mod Blocks
+pub mod Fewness
+pub mod Firsts
+pub mod Found
+pub mod Literals
+pub mod Names
+pub mod Once
+pub mod Outside
+pub mod RecordNames
+pub mod Rows
+pub mod Types
+pub mod UnitParts
