@@ -85,7 +85,7 @@ fn number_of(module: &Checked, functions: &Numbering, name: &[u8]) -> Option<u32
     requires { functions.now ≡ numbered module.now.functions }
     ensures { result ≡ function_number module.now name.now }
 {
-    // an accepted module has at most 65,536 functions
+    // an accepted module has at most 65,540 functions
     accepted_are_small();
     let _accepted = module.module();
     let place = functions.find(name)?;

@@ -1,12 +1,4 @@
-pub mod Accepted
-pub mod Arrivals
-pub mod Built
-pub mod EdgeEntries
-pub mod HaveGraphs
-pub mod HaveNumbers
-pub mod Limits
-pub mod Meanings
-pub mod ModuleKind
-pub mod Phis
-pub mod Rules
-pub mod Tally
+pub use Rattle.ir_rules.specs.Accepted
+pub use Rattle.ir_rules.specs.Kinds
+pub mod Faults
+pub mod Refused

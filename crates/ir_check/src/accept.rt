@@ -1,23 +1,21 @@
 // Whether a module is accepted.
-ghost use Rattle.std.specs.Prelude.{◌≡◌, IfOk, IfErr, map};
-ghost use Rattle.ir_check.specs.Accepted.{IsAccepted, IsRefusedFor};
+ghost use Rattle.std.specs.Prelude.{◌≡◌, IfOk, IfErr};
+ghost use Rattle.ir_check.specs.Refused.{IsRefusedFor};
+ghost use Rattle.ir_rules.specs.Accepted.{IsAccepted};
+ghost use Rattle.ir_rules.specs.Scopes as scopes;
 ghost use Rattle.ir_tree.specs.Names.{Indexes};
 
-use crate::built::is_built;
 use crate::checked::Checked;
 use crate::errors::{CheckError, Refused};
-use crate::faults::first_fault;
-use crate::limits::passed;
-use crate::rule::Rule;
-use ir_tree::{Function, Index, Module};
-use pgo_base::NoMemory;
+use crate::faults::first_in_functions;
+use check_names::first_of_names;
+use ir_limits::passed;
+use ir_rules::well_formed_breaks_none;
+use ir_tree::{Index, Module};
 use std::alloc::Global;
 
-/// Accepts a module, or hands it back with the first reason against it. The limits are tried
-/// before the rules, and the rules in order of number; within a rule the first place in text order
-/// is reported. A module with a part that isn't built is refused before all of these, and one
-/// with a local operand that isn't a parameter or an earlier result of its block, or at a phi a
-/// result of its entry's block, after them.
+/// Accepts a module, or hands it back with the first reason against it. The limits are tried before the rules, in their order, and
+/// the rules in order of number; within a rule the first place in text order is reported.
 pub fn check(alloc: Global, module: Module) -> Result<Checked, Refused>
     ensures same { IfOk result (λ c. c ≡ «module») }
     ensures accepted { IfOk result (λ c. IsAccepted «module») }
@@ -25,42 +23,31 @@ pub fn check(alloc: Global, module: Module) -> Result<Checked, Refused>
     ensures refused { IfErr result (λ r. IsRefusedFor «module» r.why) }
 {
     match judge(alloc, &module) {
-        Ok(names) => Ok(Checked::of(module, names)),
+        Ok(symbols) => Ok(Checked::of(module, symbols)),
         Err(why) => Err(Refused { why, module }),
     }
 }
 
+// The index of the symbols of an accepted module.
 fn judge(alloc: Global, module: &Module) -> Result<Index, CheckError>
-    ensures accepted { IfOk result (λ names. IsAccepted «module».now) }
-    ensures indexed { IfOk result (λ names. Indexes names (map (λ f. f.name) «module».now.functions)) }
+    ensures accepted { IfOk result (λ symbols. IsAccepted «module».now) }
+    ensures indexed { IfOk result (λ symbols. Indexes symbols (scopes.symbols «module».now)) }
     ensures refused { IfErr result (IsRefusedFor «module».now) }
 {
-    if !is_built(module) {
-        return Err(CheckError::Unbuilt);
-    }
-    match passed(module) {
+    well_formed_breaks_none();
+    let limit = passed(module);
+    match limit {
         Some((which, found)) => return Err(CheckError::Limit { which, found }),
         None => {}
     }
-    let functions = module.functions.as_slice();
-    let names = names_of(alloc, functions)?;
-    match first_fault(alloc, &names, functions)? {
-        Some((rule, place)) => {
-            if rule == Rule::Order.number() {
-                return Err(CheckError::Unbuilt);
-            }
-            Err(CheckError::Broken { rule, place })
-        }
-        None => Ok(names),
+    let (symbols, named) = first_of_names(alloc, module)?;
+    match named {
+        Some((rule, place)) => return Err(CheckError::Broken { rule, place }),
+        None => {}
     }
-}
-
-fn names_of(alloc: Global, functions: &[Function]) -> Result<Index, NoMemory>
-    ensures { IfOk result (λ names. Indexes names (map (λ f. f.name) functions.now)) }
-{
-    let mut names = Index::with_room(alloc, functions.len())?;
-    for (k, f) in functions.iter().enumerate() {
-        names.add(alloc, f.name.bytes(), k)?;
+    let fault = first_in_functions(alloc, &symbols, module)?;
+    match fault {
+        Some((rule, place)) => Err(CheckError::Broken { rule, place }),
+        None => Ok(symbols),
     }
-    Ok(names)
 }

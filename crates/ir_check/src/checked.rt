@@ -1,25 +1,26 @@
 // A module that was accepted.
-ghost use Rattle.std.specs.Prelude.{◌≡◌, map};
-ghost use Rattle.std.specs.List.{list_any};
-ghost use Rattle.ir_check.specs.Accepted.{IsAccepted};
-ghost use Rattle.ir_check.specs.ModuleKind as spec;
+ghost use Rattle.std.specs.Prelude.{◌≡◌};
+ghost use Rattle.ir_rules.specs.Accepted.{IsAccepted};
+ghost use Rattle.ir_rules.specs.Kinds as kinds;
+ghost use Rattle.ir_rules.specs.Scopes as scopes;
 ghost use Rattle.ir_tree.specs.Functions.{function_place};
 ghost use Rattle.ir_tree.specs.Names.{Indexes};
 
-use crate::place::Kind;
-use ir_tree::{Function, Index, Module};
+use ir_limits::kind_of;
+use ir_rules::Kind;
+use ir_tree::{Index, Module};
 use std::marker::Model;
 
 /// An accepted module. Contracts see it as the module.
 #[derive(Drop)]
 pub struct Checked {
     module: Module,
-    names: Index,
+    symbols: Index,
 }
 
 impl Model for Checked {
-    ghost use Rattle.std.specs.Prelude.{map};
-    ghost use Rattle.ir_check.specs.Accepted.{IsAccepted};
+    ghost use Rattle.ir_rules.specs.Accepted.{IsAccepted};
+    ghost use Rattle.ir_rules.specs.Scopes as scopes;
     ghost use Rattle.ir_tree.specs.Names.{Indexes};
     ghost use Rattle.ir_tree.specs.contracts.types.Module as row;
     ghost use Rattle.ir_tree.specs.declared.types.Module.{Module};
@@ -30,25 +31,24 @@ impl Model for Checked {
 
     ghost view = { λ c. c.«module» };
 
-    ghost invariant = { λ c. IsAccepted c.«module» × Indexes c.names (map (λ f. f.name) c.«module».functions) };
+    ghost invariant = { λ c. IsAccepted c.«module» × Indexes c.symbols (scopes.symbols c.«module») };
 }
 
 impl Checked {
-    // The accepted module with the index of its functions' names.
-    pub(crate) fn of(module: Module, names: Index) -> Checked
+    // The accepted module with the index of the names of its global variables and functions.
+    pub(crate) fn of(module: Module, symbols: Index) -> Checked
         requires accepted { IsAccepted «module» }
-        requires indexed { Indexes names (map (λ f. f.name) «module».functions) }
+        requires indexed { Indexes symbols (scopes.symbols «module») }
         ensures { result ≡ «module» }
     {
-        Checked { module, names }
+        Checked { module, symbols }
     }
 
     /// The kind of the module. Takes no memory.
     pub fn kind(&self) -> Kind
-        ensures { result ≡ spec.kind_of self.now.functions }
+        ensures { result ≡ kinds.kind_of self.now.functions }
     {
-        let functions = self.module.functions.as_slice();
-        kind_of(functions)
+        kind_of(self.module.functions.as_slice())
     }
 
     /// The module, which is accepted. Takes no memory.
@@ -64,7 +64,7 @@ impl Checked {
         ensures value { result ≡ self }
         ensures accepted { IsAccepted self }
     {
-        let Checked { module, names: _ } = self;
+        let Checked { module, symbols: _ } = self;
         module
     }
 
@@ -73,45 +73,9 @@ impl Checked {
     pub fn function_at(&self, name: &[u8]) -> Option<usize>
         ensures { result ≡ function_place self.now.functions name.now }
     {
-        self.names.find(name)
+        match self.symbols.find(name) {
+            Some(place) => place.checked_sub(self.module.globals.len()),
+            None => None,
+        }
     }
-}
-
-// Plain, unless it declares what instrumentation or lowering adds.
-pub(crate) fn kind_of(functions: &[Function]) -> Kind
-    ensures { result ≡ spec.kind_of functions.now }
-{
-    if declares_increments(functions) {
-        return Kind::Counted;
-    }
-    if declares_notes(functions) {
-        return Kind::Lowered;
-    }
-    Kind::Plain
-}
-
-#[tactic(auto, unfolding(crate::specs::ModuleKind::declares_increments))]
-fn declares_increments(functions: &[Function]) -> bool
-    ensures { result ≡ spec.declares_increments functions.now }
-{
-    declares(functions, b"llvm.instrprof.increment".as_slice())
-}
-
-#[tactic(auto, unfolding(crate::specs::ModuleKind::declares_notes))]
-fn declares_notes(functions: &[Function]) -> bool
-    ensures { result ≡ spec.declares_notes functions.now }
-{
-    declares(functions, b"__llvm_profile_instrument_target".as_slice())
-}
-
-fn declares(functions: &[Function], name: &[u8]) -> bool
-    ensures { result ≡ list_any (spec.declares name.now) functions.now }
-{
-    functions.iter().any(|f| declares_as(f, name))
-}
-
-fn declares_as(f: &Function, name: &[u8]) -> bool
-    ensures { result ≡ spec.declares name.now f.now }
-{
-    f.is_declared() && f.name.bytes() == name
 }

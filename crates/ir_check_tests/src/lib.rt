@@ -2,6 +2,14 @@
 #![tactic(auto)]
 
 #[cfg(test)]
+mod limits;
+#[cfg(test)]
 mod phis;
 #[cfg(test)]
+mod profiles;
+#[cfg(test)]
+mod rules;
+#[cfg(test)]
 mod tests;
+#[cfg(test)]
+mod texts;

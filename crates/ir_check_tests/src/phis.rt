@@ -1,25 +1,8 @@
 // Modules with phis, read from text, and the answers that the rules give by hand.
-use ir_check::{CheckError, Place, check};
-use ir_read::read;
+use crate::texts::{broken, refusal};
+use ir_check::CheckError;
 use std::alloc::Global;
 use std::test::Fail;
-
-// Why the module of a text is refused, None where it is accepted.
-fn refusal(alloc: Global, text: &[u8]) -> Result<Option<CheckError>, Fail> {
-    match check(alloc, read(alloc, text)?) {
-        Ok(_) => Ok(None),
-        Err(refused) => Ok(Some(refused.why)),
-    }
-}
-
-fn broken(rule: u8, block: u32, item: u64) -> Option<CheckError> {
-    let place = Place {
-        function: 0,
-        block,
-        item,
-    };
-    Some(CheckError::Broken { rule, place })
-}
 
 #[test]
 fn a_loop_with_phis_is_accepted(rt: HostRuntime) -> Result<(), Fail> {
@@ -84,12 +67,12 @@ head:
 }
 ",
     )?;
-    assert!(rt; behind == broken(9, 1, 2));
+    assert!(rt; behind == broken(9, 0, 1, 2));
     let first = refusal(
         alloc,
         b"define i64 @f(i64 %n) { a: %x = phi i64 [ 0, %a ] ret i64 %x }",
     )?;
-    assert!(rt; first == broken(9, 0, 0));
+    assert!(rt; first == broken(9, 0, 0, 0));
     Ok(())
 }
 
@@ -122,7 +105,7 @@ fn with_entries(alloc: Global, entries: &[u8]) -> Result<Option<CheckError>, Fai
 #[test]
 fn a_phi_has_an_entry_for_each_position(rt: HostRuntime) -> Result<(), Fail> {
     let alloc = rt.alloc();
-    let unmatched = broken(10, 2, 1);
+    let unmatched = broken(10, 0, 2, 1);
     assert!(rt; with_entries(alloc, b"[ %d, %entry ], [ %d, %entry ], [ %e, %dead ]")?.is_none());
     assert!(rt; with_entries(alloc, b"[ %d, %entry ], [ %e, %dead ]")? == unmatched);
     assert!(rt; with_entries(alloc, b"[ %d, %entry ], [ %d, %entry ]")? == unmatched);
@@ -136,10 +119,10 @@ fn a_phi_has_an_entry_for_each_position(rt: HostRuntime) -> Result<(), Fail> {
 fn the_values_of_a_phi_exist_and_fit(rt: HostRuntime) -> Result<(), Fail> {
     let alloc = rt.alloc();
     let unknown = with_entries(alloc, b"[ 1, %entry ], [ 1, %entry ], [ %z, %dead ]")?;
-    assert!(rt; unknown == broken(11, 2, 1));
+    assert!(rt; unknown == broken(11, 0, 2, 1));
     let other_type = with_entries(alloc, b"[ %c, %entry ], [ %c, %entry ], [ 1, %dead ]")?;
-    assert!(rt; other_type == broken(12, 2, 1));
+    assert!(rt; other_type == broken(12, 0, 2, 1));
     let other_block = with_entries(alloc, b"[ %e, %entry ], [ %e, %entry ], [ %d, %dead ]")?;
-    assert!(rt; other_block == Some(CheckError::Unbuilt));
+    assert!(rt; other_block == broken(16, 0, 2, 1));
     Ok(())
 }

@@ -181,7 +181,7 @@ fn the_first_broken_rule_is_named(rt: HostRuntime) -> Result<(), Fail> {
     let other_type = refusal(alloc, [b"c".as_slice()].as_slice())?;
     assert!(rt; other_type == broken(12, 1, 2, 0));
     let other_block = refusal(alloc, [b"a".as_slice()].as_slice())?;
-    assert!(rt; other_block == Some(CheckError::Unbuilt));
+    assert!(rt; other_block == broken(16, 1, 2, 0));
     Ok(())
 }
 

@@ -1,5 +1,0 @@
-use Rattle.std.proofs.Common.{◌≡◌, map, [], replicate}
-use Rattle.ir_check.proofs.arrivals.empty_lists.Given as goal
-
-abbrev pub invariant-loop-b : goal.invariant-loop-b
-invariant-loop-b l = map (λ v. v.items) l.lists.items ≡ replicate l._b []
