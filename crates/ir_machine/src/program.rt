@@ -1,11 +1,11 @@
 // The code of a module.
 ghost use Rattle.std.specs.Prelude.{◌≡◌, ◌^◌, ◌<◌, ◌≤◌, IfOk, IsErrOf};
 ghost use Rattle.ir_tree.specs.Functions.{numbered};
-ghost use Rattle.ir_check.specs.ModuleKind.{kind_of};
-ghost use Rattle.ir_check.specs.declared.place.Kind.TheVariants as kinds;
 ghost use Rattle.ir_code.specs.Images.{module_images};
 ghost use Rattle.ir_code.specs.Resolved.{module_code};
 ghost use Rattle.ir_code.specs.Units.{counters_of_all, sites_of_all, tallies_of};
+ghost use Rattle.ir_rules.specs.Kinds.{kind_of};
+ghost use Rattle.ir_rules.specs.declared.place.Kind.TheVariants as kinds;
 ghost use Rattle.ir_machine.specs.Slots.{edges_of_all, first_edge_of, slot_of, HasEdge, all_slots};
 
 use crate::slots::{FunctionSlots, Numbering, entry_in, number_functions, slot_in_all};

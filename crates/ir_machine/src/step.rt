@@ -14,6 +14,7 @@ use ir_model::TrapKind;
 use pgo_base::NoMemory;
 
 /// Performs an operation that the machine counts as done.
+#[inline(always)]
 fn perform(functions: &[FunctionCode], machine: &mut Machine, op: &Op) -> Result<Turn, NoMemory>
     ensures { IfOk result (λ turn. Does functions.now machine.old (deed machine.old.top.registers (length functions.now) machine.old.memory op.now) turn machine.new) }
 {
@@ -72,6 +73,7 @@ fn perform(functions: &[FunctionCode], machine: &mut Machine, op: &Op) -> Result
 }
 
 /// One step in a block.
+#[inline(always)]
 fn step_in(
     functions: &[FunctionCode],
     block: &BlockCode,
@@ -89,6 +91,7 @@ fn step_in(
 }
 
 /// One step in a function.
+#[inline(always)]
 fn step_function(
     functions: &[FunctionCode],
     function: &FunctionCode,
@@ -103,6 +106,7 @@ fn step_function(
 }
 
 /// One step: an operation or a terminator of the function that was called last.
+#[inline(always)]
 pub fn step(functions: &[FunctionCode], machine: &mut Machine) -> Result<Turn, NoMemory>
     ensures { IfOk result (λ turn. After (code_step functions.now (state_of machine.old)) machine.old.printed.items turn machine.new) }
 {
