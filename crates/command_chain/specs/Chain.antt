@@ -7,6 +7,7 @@ use Rattle.ir_model.specs.Log.{traversals_of_all}
 use Rattle.pgo_shell.specs.Judgement.{Made, Whole}
 use Rattle.pgo_shell.specs.Shell.{Task}
 use Rattle.pgo_shell.specs.World.{World}
+use Rattle.command_texts.specs.Program.{is_plain}
 use Rattle.command_run.specs.OnCalls.{CallFiles, CallsStand, calls_task, texts_judgement}
 use Rattle.command_run.specs.Outcomes.{first_unreturned, outcomes}
 use Rattle.command_chain.specs.Report.{Count, report}
@@ -32,10 +33,10 @@ chain_agrees m steps calls a b p q = p.halted ∙ sym q.halted
 -- ---- the command
 
 abbrev pub chain_judgement : CallFiles → List ℕ → List ℕ → Whole
-chain_judgement = texts_judgement ChainMakes chain_agrees
+chain_judgement = texts_judgement is_plain ChainMakes chain_agrees
 
 abbrev pub chain_task : CallFiles → Task
-chain_task = calls_task ChainMakes chain_agrees
+chain_task = calls_task is_plain ChainMakes chain_agrees
 
 -- the outcomes of the calls, and then the report, in which each edge of each defined function has the number of times that
 -- the runs of the calls walk it
@@ -44,4 +45,4 @@ chain_puts m steps calls = outcomes m steps 0 calls ++ report (walks m steps cal
 
 -- what stands after a `chain` that ended well
 abbrev pub ChainStands : CallFiles → World → World → Type 0
-ChainStands = CallsStand chain_puts
+ChainStands = CallsStand is_plain chain_puts

@@ -10,7 +10,9 @@ use Rattle.pgo_shell.specs.World.{World}
 use Rattle.pgo_shell.specs.declared.status.Status.{Status}
 use Rattle.pgo_shell.specs.declared.status.Status.TheVariants as status
 use Rattle.command_texts.specs.Calls.{MakesCalls}
-use Rattle.command_texts.specs.Program.{IsCounted, IsTheProgram}
+use Rattle.ir_rules.specs.Kinds.{kind_of}
+use Rattle.ir_rules.specs.declared.place.Kind.TheVariants.{Plain}
+use Rattle.command_texts.specs.Program.{IsTheProgram, is_plain}
 use Rattle.command_run.specs.OnCalls.{CallFiles}
 use Rattle.command_run.specs.OnCallsLaws.{calls_finish, calls_stand}
 use Rattle.command_run.specs.OutcomeLaws.{none_unreturned}
@@ -25,14 +27,14 @@ chain_shows m steps calls made makes none = subst (λ (h : Option (List ℕ)). C
 
 -- what was delivered is a `chain` in its own words
 pub chain_stands : (f : CallFiles) (old new : World) → old.tells → Delivers (chain_task f) old new (Ok tt) → ChainStands f old new
-chain_stands = calls_stand ChainMakes chain_agrees chain_puts chain_halts chain_shows
+chain_stands = calls_stand is_plain ChainMakes chain_agrees chain_puts chain_halts chain_shows
 
--- a program of which all calls return is counted to its end, unless a fault rose or memory ran out
+-- a plain program of which all calls return is counted to its end, unless a fault rose or memory ran out
 pub chain_finishes : (f : CallFiles) (old new : World) (s : Status) → Promises (chain_task f) old new s → old.tells →
     (program list : List ℕ) (m : Module) (calls : List Call) → text_of old.files f.«module» ≡ Some program → text_of old.files f.calls ≡ Some list →
-    IsTheProgram program m → (IsCounted m → ⊥) → MakesCalls list m calls → All (HasReturned m f.steps) calls →
+    IsTheProgram program m → kind_of m.functions ≡ Plain → MakesCalls list m calls → All (HasReturned m f.steps) calls →
     (FaultsRose (chain_task f) old new → ⊥) → (s ≡ status.Done) ⊎ (s ≡ status.Memory)
-chain_finishes f old new s promises told program list m calls program_is list_is the runs listed returned quiet =
+chain_finishes f old new s promises told program list m calls program_is list_is the plain listed returned quiet =
     let made : Made = record { halted = None; output = chain_puts m f.steps calls; written = [] } in
     let makes : ChainMakes m f.steps calls made = record { halted = sym (none_unreturned m f.steps 0 calls returned); puts = refl; written = refl } in
-    calls_finish ChainMakes chain_agrees f old new s promises told program list m calls program_is list_is the runs listed made makes refl quiet
+    calls_finish is_plain ChainMakes chain_agrees f old new s promises told program list m calls program_is list_is the plain listed made makes refl quiet

@@ -1,7 +1,9 @@
 // The command `chain MODULE CALLS`: runs calls on a module and counts the traversals of every edge.
 ghost use Rattle.std.specs.Prelude.{◌≡◌, ◌≤◌, ℕ, [], IfErr, IfOk, OnOk, get_or, length};
 ghost use Rattle.std.specs.Option.{option_map};
-ghost use Rattle.ir_check.specs.Accepted.{IsAccepted};
+ghost use Rattle.ir_rules.specs.Accepted.{IsAccepted};
+ghost use Rattle.ir_rules.specs.Kinds.{kind_of};
+ghost use Rattle.ir_rules.specs.declared.place.Kind.TheVariants.{Plain};
 ghost use Rattle.ir_machine.specs.Slots.{edges_of_all};
 ghost use Rattle.ir_model.specs.Run.{IsValidCallList};
 ghost use Rattle.pgo_shell.specs.Product.{RefusedBy, bytes_of, made_of};
@@ -14,7 +16,7 @@ use crate::Chain;
 use crate::report::push_report;
 use call_list::outcome;
 use command_run::first_unreturned;
-use command_texts::{calls, code, program};
+use command_texts::{calls, plain_code, program};
 use ir_check::{Checked, functions_have_graphs, functions_have_numbers};
 use ir_machine::{Code, edges_are_counted, trace_call};
 use ir_model::Call;
@@ -65,7 +67,7 @@ fn chain_texts(
     ensures files { IfOk result (λ p. p.files.items ≡ []) }
 {
     let module = program(alloc, &command.module, program_text)?;
-    let code = code(alloc, &command.module, &module)?;
+    let code = plain_code(alloc, &command.module, &module)?;
     let calls = calls(alloc, &command.calls, &module, calls_text)?;
     let product = count_all(alloc, &module, &code, calls.as_slice(), command.steps)?;
     Ok(product)
@@ -89,6 +91,7 @@ fn count_all(
     requires few { steps ≤ 1_099_511_627_776 }
     requires code { code.now ≡ «module».now }
     requires accepted { IsAccepted «module».now }
+    requires plain { kind_of «module».now.functions ≡ Plain }
     requires valid { IsValidCallList «module».now calls.now }
     ensures made { IfOk result (λ product. ChainMakes «module».now steps calls.now (made_of product)) }
     ensures files { IfOk result (λ product. product.files.items ≡ []) }

@@ -4,7 +4,9 @@ ghost use Rattle.std.specs.Option.{option_copied};
 ghost use Rattle.ir_tree.specs.Functions.{function_at, is_declared};
 ghost use Rattle.ir_tree.specs.Graphs.{HasGraph, block_of, graph_of};
 ghost use Rattle.ir_tree.specs.declared.edge.Edge.{Edge};
-ghost use Rattle.ir_check.specs.Accepted.{IsAccepted};
+ghost use Rattle.ir_rules.specs.Accepted.{IsAccepted};
+ghost use Rattle.ir_rules.specs.Kinds.{kind_of};
+ghost use Rattle.ir_rules.specs.declared.place.Kind.TheVariants.{Plain};
 ghost use Rattle.ir_machine.specs.Slots.{HasEdge, edges_of_all};
 ghost use Rattle.command_chain.specs.Counted.{counted_at};
 ghost use Rattle.command_chain.specs.Report.{edge_line, edge_lines, function_lines, function_report, label_text, node_text, report};
@@ -27,6 +29,7 @@ pub fn push_report(
 ) -> Result<(), NoMemory>
     requires code { code.now ≡ «module».now }
     requires accepted { IsAccepted «module».now }
+    requires plain { kind_of «module».now.functions ≡ Plain }
     requires all { length counts.now ≡ edges_of_all code.now }
     ensures { OnOk result (out.new.items ≡ out.old.items ++ report (counted_at code.now counts.now) 0 «module».now.functions) }
 {

@@ -2,9 +2,9 @@
 use Rattle.std.specs.Prelude.{◌≡◌, ℕ, List, [], ◌∷◌, ◌++◌, Some, None, codes}
 use Rattle.std.proofs.Common.{ap, sym, ◌∙◌}
 use Rattle.ir_tree.specs.declared.types.Module.{Module}
-use Rattle.ir_check.specs.ModuleKind.{kind_of}
-use Rattle.ir_check.specs.declared.place.Kind.{Kind}
-use Rattle.ir_check.specs.declared.place.Kind.TheVariants.{Plain, Counted, Lowered}
+use Rattle.ir_rules.specs.Kinds.{kind_of}
+use Rattle.ir_rules.specs.declared.place.Kind.{Kind}
+use Rattle.ir_rules.specs.declared.place.Kind.TheVariants.{Plain, Counted, Lowered}
 use Rattle.pgo_base.specs.Outside.{SameFiles}
 use Rattle.pgo_shell.specs.Judgement.{Made, Whole, halt_of, making, then}
 use Rattle.pgo_shell.specs.Shell.{Task, text_of}

@@ -10,7 +10,7 @@ use Rattle.pgo_shell.specs.World.{World}
 use Rattle.pgo_shell.specs.declared.status.Status.{Status}
 use Rattle.pgo_shell.specs.declared.status.Status.TheVariants as status
 use Rattle.command_texts.specs.Calls.{MakesCalls}
-use Rattle.command_texts.specs.Program.{IsCounted, IsTheProgram}
+use Rattle.command_texts.specs.Program.{IsCounted, IsTheProgram, runs_as_it_is}
 use Rattle.command_run.specs.OnCalls.{CallFiles}
 use Rattle.command_run.specs.OnCallsLaws.{calls_finish, calls_stand}
 use Rattle.command_run.specs.OutcomeLaws.{none_unreturned}
@@ -25,7 +25,7 @@ run_shows m steps calls made makes none = ap (λ (x : Made). x.output) makes
 
 -- what was delivered is a `run` in its own words
 pub run_stands : (f : CallFiles) (old new : World) → old.tells → Delivers (run_task f) old new (Ok tt) → RunStands f old new
-run_stands = calls_stand RunMakes run_agrees run_puts run_halts run_shows
+run_stands = calls_stand runs_as_it_is RunMakes run_agrees run_puts run_halts run_shows
 
 -- a program of which all calls return is run to its end, unless a fault rose or memory ran out
 pub run_finishes : (f : CallFiles) (old new : World) (s : Status) → Promises (run_task f) old new s → old.tells →
@@ -33,5 +33,5 @@ pub run_finishes : (f : CallFiles) (old new : World) (s : Status) → Promises (
     IsTheProgram program m → (IsCounted m → ⊥) → MakesCalls list m calls → All (HasReturned m f.steps) calls → (FaultsRose (run_task f) old new → ⊥) →
     (s ≡ status.Done) ⊎ (s ≡ status.Memory)
 run_finishes f old new s promises told program list m calls program_is list_is the runs listed returned quiet =
-    calls_finish RunMakes run_agrees f old new s promises told program list m calls program_is list_is the runs listed
+    calls_finish runs_as_it_is RunMakes run_agrees f old new s promises told program list m calls program_is list_is the runs listed
     (run_made m f.steps calls) refl (none_unreturned m f.steps 0 calls returned) quiet

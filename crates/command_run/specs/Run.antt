@@ -6,6 +6,7 @@ use Rattle.ir_model.specs.declared.result.Call.{Call}
 use Rattle.pgo_shell.specs.Judgement.{Made, Whole, halt_of}
 use Rattle.pgo_shell.specs.Shell.{Task}
 use Rattle.pgo_shell.specs.World.{World}
+use Rattle.command_texts.specs.Program.{runs_as_it_is}
 use Rattle.command_run.specs.OnCalls.{CallFiles, CallsStand, calls_task, texts_judgement}
 use Rattle.command_run.specs.Outcomes.{first_unreturned, outcomes}
 
@@ -23,10 +24,10 @@ run_agrees m steps calls a b p q = ap halt_of (p ∙ sym q)
 -- ---- the command
 
 abbrev pub run_judgement : CallFiles → List ℕ → List ℕ → Whole
-run_judgement = texts_judgement RunMakes run_agrees
+run_judgement = texts_judgement runs_as_it_is RunMakes run_agrees
 
 abbrev pub run_task : CallFiles → Task
-run_task = calls_task RunMakes run_agrees
+run_task = calls_task runs_as_it_is RunMakes run_agrees
 
 -- the outcomes of the calls
 abbrev pub run_puts : Module → ℕ → List Call → List ℕ
@@ -34,4 +35,4 @@ run_puts m steps calls = outcomes m steps 0 calls
 
 -- what stands after a `run` that ended well
 abbrev pub RunStands : CallFiles → World → World → Type 0
-RunStands = CallsStand run_puts
+RunStands = CallsStand runs_as_it_is run_puts

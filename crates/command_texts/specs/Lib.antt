@@ -1,3 +1,4 @@
+pub mod CheckLines
 pub mod Program
 pub mod CallsLines
 pub mod CallsLaws

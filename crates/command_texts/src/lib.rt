@@ -3,5 +3,6 @@
 #![tactic(auto)]
 
 mod reading;
+mod reasons;
 
-pub use reading::{calls, code, program};
+pub use reading::{calls, code, plain_code, program};

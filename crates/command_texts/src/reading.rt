@@ -1,19 +1,21 @@
 // The program and the calls that a command reads, and the lines that say why it has none.
 ghost use Rattle.std.specs.Prelude.{◌≡◌, IfErr, IfOk};
-ghost use Rattle.ir_check.specs.Accepted.{IsAccepted};
+ghost use Rattle.ir_rules.specs.Accepted.{IsAccepted};
 ghost use Rattle.ir_model.specs.Run.{IsValidCallList};
 ghost use Rattle.ir_tree.specs.declared.types.Module.{Module};
 ghost use Rattle.pgo_shell.specs.Product.{RefusedBy};
 ghost use Rattle.command_texts.specs.Calls.{MakesCalls, calls_on};
-ghost use Rattle.command_texts.specs.Program.{program, runs_as_it_is};
+ghost use Rattle.command_texts.specs.Program.{is_plain, program, runs_as_it_is};
 ghost use Rattle.command_texts.specs.Says.{SaysCalls, SaysNotAccepted};
 
+use crate::reasons::refused_module;
 use call_list::{CallsError, read_calls};
 use command_lines::{refused, refused_at};
-use ir_check::{CheckError, Checked, check};
+use ir_check::{Checked, Kind, check};
 use ir_machine::{Code, ResolveError, resolve};
 use ir_model::Call;
 use ir_read::{ReadError, read};
+use ir_rules::well_formed_breaks_none;
 use ir_tree::Module;
 use pgo_shell::Refusal;
 use std::alloc::Global;
@@ -49,6 +51,23 @@ pub fn code<'a>(alloc: Global, name: &str, module: &'a Checked) -> Result<Code<'
     }
 }
 
+/// The code of a plain program. One of another kind is refused.
+pub fn plain_code<'a>(alloc: Global, name: &str, module: &'a Checked) -> Result<Code<'a>, Refusal>
+    ensures code { IfOk result (λ code. code ≡ «module».now) }
+    ensures found { IfOk result (λ _. (is_plain name.now «module».now).finds tt) }
+    ensures refuses { IfErr result (RefusedBy (is_plain name.now «module».now)) }
+{
+    match module.kind() {
+        Kind::Plain => {}
+        Kind::Counted => return Err(refused(alloc, name, b": wrong kind counted")),
+        Kind::Lowered => return Err(refused(alloc, name, b": wrong kind lowered")),
+    }
+    match resolve(alloc, module) {
+        Ok(code) => Ok(code),
+        Err(_) => Err(Refusal::NoMemory),
+    }
+}
+
 /// The calls that a calls text makes on a program.
 pub fn calls(alloc: Global, name: &str, module: &Checked, text: &[u8]) -> Result<Vec<Call>, Refusal>
     ensures found { IfOk result (λ calls. (calls_on name.now «module».now text.now).finds calls.items) }
@@ -66,14 +85,10 @@ fn accepted(alloc: Global, name: &str, module: Module) -> Result<Checked, Refusa
     ensures found { IfOk result (λ m. (m ≡ «module») × IsAccepted m) }
     ensures refused { IfErr result (λ refusal. SaysNotAccepted name.now «module» refusal) }
 {
+    well_formed_breaks_none();
     match check(alloc, module) {
         Ok(checked) => Ok(checked),
-        Err(error) => match error.why {
-            CheckError::NoMemory => Err(Refusal::NoMemory),
-            CheckError::Unbuilt | CheckError::Limit { .. } | CheckError::Broken { .. } => {
-                Err(refused(alloc, name, b": not built"))
-            }
-        },
+        Err(error) => Err(refused_module(alloc, name, error.why)),
     }
 }
 

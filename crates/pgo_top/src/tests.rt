@@ -255,15 +255,19 @@ e: ret void
 #[test]
 fn a_text_that_is_no_program_is_refused(rt: HostRuntime) -> Result<(), Fail> {
     let alloc = rt.alloc();
-    let texts: [(&[u8], &[u8]); 3] = [
+    let texts: [(&[u8], &[u8]); 4] = [
         (b"target triple = \"x86", b"pgo: m.ll: syntax at byte 16\n"),
         (
-            b"define i8 @b() {\ne: ret i8 1\n}\n",
-            b"pgo: m.ll: not built\n",
+            b"declare void @g()\ndefine i8 @b() {\ne: br label %x\nx: %y = add i8 1, 1\nret void\n}\n",
+            b"pgo: m.ll: rule 14 at 1 1 1\n",
         ),
         (
             b"define i64 @f() {\ne: ret i64 %x\n}\n",
-            b"pgo: m.ll: not built\n",
+            b"pgo: m.ll: rule 11 at 0 0 0\n",
+        ),
+        (
+            b"@a = global [1048577 x i8] zeroinitializer\n",
+            b"pgo: m.ll: limit Object 1048577\n",
         ),
     ];
     for (text, line) in texts {
@@ -272,6 +276,45 @@ fn a_text_that_is_no_program_is_refused(rt: HostRuntime) -> Result<(), Fail> {
         assert_eq!(rt; ended.out.bytes(), b"".as_slice());
         assert_eq!(rt; ended.err.bytes(), line);
     }
+    Ok(())
+}
+
+const COUNTED: &[u8] = b"declare void @llvm.instrprof.increment(ptr, i64, i32, i32)
+define i64 @g(i64 %n) {
+entry:
+  ret i64 %n
+}
+";
+
+const LOWERED: &[u8] = b"declare void @__llvm_profile_instrument_target(i64, ptr, i32)
+define i64 @g(i64 %n) {
+entry:
+  ret i64 %n
+}
+";
+
+// `check` takes each kind, `run` all but the counted one, and `chain` the plain one.
+#[test]
+fn commands_take_some_kinds(rt: HostRuntime) -> Result<(), Fail> {
+    let alloc = rt.alloc();
+    let counted = of_words(&rt, alloc, &["check", "m.ll"], COUNTED)?;
+    assert_eq!(rt; counted.out.bytes(), b"counted\n".as_slice());
+    let lowered = of_words(&rt, alloc, &["check", "m.ll"], LOWERED)?;
+    assert_eq!(rt; lowered.out.bytes(), b"lowered\n".as_slice());
+    let refused: [(&str, &[u8], &[u8]); 3] = [
+        ("run", COUNTED, b"pgo: m.ll: wrong kind counted\n"),
+        ("chain", COUNTED, b"pgo: m.ll: wrong kind counted\n"),
+        ("chain", LOWERED, b"pgo: m.ll: wrong kind lowered\n"),
+    ];
+    for (command, text, line) in refused {
+        let ended = perform(&rt, alloc, command, text, b"@g 3", Vec::new(alloc))?;
+        assert_eq!(rt; ended.status, Status::Refused);
+        assert_eq!(rt; ended.out.bytes(), b"".as_slice());
+        assert_eq!(rt; ended.err.bytes(), line);
+    }
+    let ran = run(&rt, alloc, LOWERED, b"@g 3", Vec::new(alloc))?;
+    assert_eq!(rt; ran.status, Status::Done);
+    assert_eq!(rt; ran.out.bytes(), b"call 0 @g\nreturned 3\n".as_slice());
     Ok(())
 }
 

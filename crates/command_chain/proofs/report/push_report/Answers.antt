@@ -14,7 +14,7 @@ loop-number-init c = refl
 
 pub overflow_cast-number : goal.overflow_cast-number
 overflow_cast-number c =
-    let few = (c.accepted_are_small.ensures c.args.«module».now c.requires.accepted).functions in
+    let few = (c.accepted_are_small.ensures.any c.args.«module».now c.requires.accepted).functions in
     let same = ap (λ (fs : List Function). length fs) (c.as_slice-function-items.ensures ∙ ap (λ (m : Module). m.functions) c.module.ensures.value) in
     omega (arith, few, same, c.loop-number-test.true)
 
@@ -28,7 +28,7 @@ pub push_function-requires-clause-at : goal.push_function-requires-clause-at
 push_function-requires-clause-at c =
     let same = c.as_slice-function-items.ensures ∙ ap (λ (m : Module). m.functions) c.module.ensures.value in
     let there = found_at c.as_slice-function-items.result.now c.loop-number.number c.function-item.result c.loop-number-test.true c.function-item.is in
-    let numbers = c.functions_have_numbers.ensures c.args.«module».now c.requires.accepted in
+    let numbers = c.functions_have_numbers.ensures c.args.«module».now c.requires.accepted c.requires.plain in
     ap (λ (m : Module). function_at m c.loop-number.number) c.requires.code
     ∙ ap (λ (fs : List Function). slice_get fs c.loop-number.number) (numbers ∙ sym same) ∙ there
 

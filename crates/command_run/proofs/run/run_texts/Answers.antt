@@ -22,8 +22,8 @@ returns-in_err-calls-clause-refuses c =
     let m = c.in_ok-module.«module» in
     let e = c.in_err-calls.field-0.0 in
     let refused : RefusedBy (run_judgement f c.args.program_text.now c.args.calls_text.now) e =
-    refused_next (program f.«module» c.args.program_text.now) (λ x. kind_judgement RunMakes run_agrees f x c.args.calls_text.now) m e c.in_ok-module.ensures.found
-    (refused_next (runs_as_it_is f.«module» m) (λ u. calls_judgement RunMakes run_agrees f m c.args.calls_text.now) tt e c.in_ok-code.ensures.found
+    refused_next (program f.«module» c.args.program_text.now) (λ x. kind_judgement runs_as_it_is RunMakes run_agrees f x c.args.calls_text.now) m e c.in_ok-module.ensures.found
+    (refused_next (runs_as_it_is f.«module» m) (λ u. calls_judgement runs_as_it_is RunMakes run_agrees f m c.args.calls_text.now) tt e c.in_ok-code.ensures.found
     (refused_first (calls_on f.calls m c.args.calls_text.now) (λ calls. making (RunMakes m f.steps calls) (run_agrees m f.steps calls)) e
     (subst (λ (file : List ℕ). RefusedBy (calls_on file m c.args.calls_text.now) e) c.deref-3.ensures c.in_err-calls.ensures.refuses))) in
     search rules
