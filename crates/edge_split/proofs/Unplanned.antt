@@ -1,19 +1,13 @@
 -- A function without a plan stays as it is.
-use Rattle.std.proofs.Common.{◌≡◌, ℕ, zero, suc, ◌+◌, Bool, true, false, List, [], ◌∷◌, ◌++◌, map, Some, None, slice_get, slice_set, slice_index_or, refl, ◌∙◌, ap, add-one}
-use Rattle.std.proofs.lemmas.List.{take-append-drop}
+use Rattle.std.proofs.Common.{◌≡◌, ℕ, zero, suc, ◌+◌, Bool, true, false, List, [], ◌∷◌, ◌++◌, Some, None, slice_get, slice_set, slice_index_or, refl, ◌∙◌, ap, add-one}
 use Rattle.std.proofs.lemmas.Option.{none-some, same_Some}
 use Rattle.spec_lists.specs.Each.{each}
 use Rattle.ir_tree.specs.Names.{same}
-use Rattle.ir_tree.specs.Phis.{behind_phis, leading_phis, phi_count}
 use Rattle.ir_tree.specs.Successors.{successors}
 use Rattle.ir_tree.specs.declared.types.Block.{Block}
 use Rattle.ir_tree.specs.declared.types.Function.{Function}
-use Rattle.ir_tree.specs.declared.types.Instr.{Instr}
-use Rattle.ir_tree.specs.declared.types.Instr.TheVariants.{Binary, Compare, Convert, Freeze, Select, Phi, Alloca, Load, Store, Gep, Call, Count}
-use Rattle.ir_tree.specs.declared.types.Term.{Term}
-use Rattle.ir_tree.specs.declared.types.Term.TheVariants.{Br, CondBr, Switch, Ret, Unreachable}
-use Rattle.count_plan.specs.Counted.{counted_block, counted_blocks, counted_from, counted_function, counted_functions, counted_instrs, counted_pieces, no_function_plan, put_on}
-use Rattle.count_plan.specs.Ways.{block_plan, led, led_cases, new_at, no_block_plan, renamed_phi, renaming, renamings, renamings_from}
+use Rattle.count_plan.specs.Counted.{counted_blocks, counted_function, counted_functions, counted_pieces, no_function_plan}
+use Rattle.count_plan.specs.Ways.{block_plan, new_at, no_block_plan, renaming, renamings_from}
 use Rattle.count_plan.specs.declared.plan.FunctionPlan.{FunctionPlan}
 use Rattle.count_plan.specs.Stays.{BlocksStay, PutsNothing, Stays}
 use Rattle.edge_split.specs.Split.{at_place}
