@@ -5,4 +5,5 @@ pub mod Firsts
 pub mod Inner
 pub mod Matches
 pub mod Parts
+pub mod PhiFree
 pub mod PhiLists

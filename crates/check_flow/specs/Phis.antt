@@ -1,5 +1,5 @@
 -- The blocks from which a block is entered, and those that the entries of a phi name, by number.
-use Rattle.std.specs.Prelude.{◌≡◌, ℕ, ◌<◌, Bool, false, ◌&&◌, ◌==◌, List, [], ◌++◌, length, map, flat_map, Option, None, Some, unwrap_or, vec_len}
+use Rattle.std.specs.Prelude.{◌≡◌, ℕ, ◌<◌, Bool, false, not, ◌&&◌, ◌==◌, List, [], ◌++◌, length, map, flat_map, Option, None, Some, unwrap_or, vec_len}
 use Rattle.std.specs.Global.{Vec}
 use Rattle.std.specs.List.{list_all, slice_index_or}
 use Rattle.check_flow.specs.LookUps.{LabelOf}
@@ -7,7 +7,7 @@ use Rattle.ir_rules.specs.Parts.{place, unless}
 use Rattle.ir_rules.specs.PhiEntries.{are_as_many, are_matched_if_any, tails}
 use Rattle.ir_rules.specs.declared.place.Place.{Place}
 use Rattle.ir_tree.specs.Operands.{Entries}
-use Rattle.ir_tree.specs.Phis.{entries_of}
+use Rattle.ir_tree.specs.Phis.{entries_of, is_phi}
 use Rattle.ir_tree.specs.Successors.{successors}
 use Rattle.ir_tree.specs.declared.types.Block.{Block}
 use Rattle.spec_lists.specs.Each.{each, only_if}
@@ -48,6 +48,9 @@ pub record EntersAll (known : LabelOf) (blocks : List Block) (lists : Lists) : T
   pub each : (b : ℕ) → b < length blocks → listed lists b ≡ arrivals known b blocks
 
 -- ---- phis that break the rule
+
+abbrev pub are_without_phis : List Block → Bool
+are_without_phis blocks = list_all (λ block. list_all (λ x. not (is_phi x)) block.instrs) blocks
 
 -- each label of an entry, and each block, is named by as many entries as it has successor positions that name l
 abbrev pub are_as_many_all : List Block → List ℕ → Entries → Bool

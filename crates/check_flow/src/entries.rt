@@ -1,5 +1,5 @@
 // Rule 10: whether a phi has an entry for each successor position that names its block.
-ghost use Rattle.std.specs.Prelude.{◌≡◌, ◌<◌, ◌&&◌, length, map, Some, slice_get, unwrap_or, IfOk};
+ghost use Rattle.std.specs.Prelude.{◌≡◌, ◌<◌, ◌&&◌, not, length, map, Some, slice_get, unwrap_or, IfOk};
 ghost use Rattle.std.specs.List.{list_all};
 ghost use Rattle.std.specs.Option.{option_and_then, option_copied};
 ghost use Rattle.check_flow.specs.LookUps as look;
@@ -9,7 +9,7 @@ ghost use Rattle.ir_rules.specs.Parts.{function_places};
 ghost use Rattle.ir_rules.specs.PhiEntries as rule;
 ghost use Rattle.ir_tree.specs.FunctionNames.{IsIndexOf};
 ghost use Rattle.ir_tree.specs.Names.{Indexes, first_place};
-ghost use Rattle.ir_tree.specs.Phis.{entries_of};
+ghost use Rattle.ir_tree.specs.Phis.{entries_of, is_phi};
 ghost use Rattle.ir_tree.specs.declared.types.Block.{Block};
 ghost use Rattle.spec_lists.specs.Each.{each, first_of};
 
@@ -35,6 +35,25 @@ pub(crate) fn first_unmatched(
     ensures { IfOk result (λ found. found ≡ first_of (function_places rule.phi_entries k f.now)) }
 {
     look_ups_tell();
+    unmatched_if_any(alloc, known, k, f)
+}
+
+// The ways between blocks are gathered only for phis.
+fn unmatched_if_any(
+    alloc: Global,
+    known: &FunctionIndex,
+    k: u32,
+    f: &Function,
+) -> Result<Option<Place>, NoMemory>
+    requires known { IsIndexOf known.now f.now }
+    requires finds { FindsNames f.now }
+    requires few { length f.now.blocks < 4294967296 }
+    ensures { IfOk result (λ found. found ≡ first_of (each (spec.unmatched_places f.now.blocks k) 0 f.now.blocks)) }
+{
+    let blocks = f.blocks.as_slice();
+    if are_without_phis(blocks) {
+        return Ok(None);
+    }
     unmatched_in(alloc, known, k, f)
 }
 
@@ -59,6 +78,20 @@ fn unmatched_in(
         }
     }
     Ok(None)
+}
+
+fn are_without_phis(blocks: &[Block]) -> bool
+    ensures { result ≡ spec.are_without_phis blocks.now }
+{
+    blocks
+        .iter()
+        .all(|block| is_without_phis(block.instrs.as_slice()))
+}
+
+fn is_without_phis(instrs: &[Instr]) -> bool
+    ensures { result ≡ list_all (λ x. not (is_phi x)) instrs.now }
+{
+    instrs.iter().all(|x| !x.is_phi())
 }
 
 #[tactic(auto, using(spec_lists::proofs::Each::each_dropped))]

@@ -38,7 +38,8 @@ fn repeated_in(alloc: Global, k: usize, f: &Function) -> Result<Option<Place>, N
     if f.is_declared() {
         return Ok(None);
     }
-    let mut seen = Seen::new(alloc);
+    // A function within the limits has few names beside its labels.
+    let mut seen = Seen::with_room(alloc, f.blocks.len())?;
     if !are_new(alloc, &mut seen, f)? {
         return Ok(Some(item_place(k, 0, 0)));
     }

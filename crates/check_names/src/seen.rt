@@ -25,6 +25,14 @@ impl Seen {
         }
     }
 
+    /// No names, with room for so many.
+    pub(crate) fn with_room(alloc: Global, count: usize) -> Result<Seen, NoMemory>
+        ensures { IfOk result (λ seen. HasSeen seen []) }
+    {
+        let index = Index::with_room(alloc, count)?;
+        Ok(Seen { index, count: 0 })
+    }
+
     /// Puts a name behind those that were seen, and answers whether it is none of them.
     pub(crate) fn add(&mut self, alloc: Global, name: &[u8]) -> Result<bool, NoMemory>
         requires room { self.old.count ≤ 2101248 }

@@ -15,7 +15,7 @@ ghost use Rattle.spec_lists.specs.Each.{each, first_of};
 use crate::items::{exit_breaks, head_breaks, item_breaks};
 use crate::scope::Scope;
 use ir_rules::{Kind, Place, look_ups_tell};
-use ir_tree::{Block, Function, FunctionIndex, Index, Instr, Module};
+use ir_tree::{Block, Function, FunctionIndex, Index, Module};
 
 /// The first of rules 11 to 15 that function `k` of a module breaks, by its number, with its first place in text order. `symbols` are
 /// the names of the module's global variables and then its functions.

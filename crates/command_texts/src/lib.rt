@@ -5,4 +5,4 @@
 mod reading;
 mod reasons;
 
-pub use reading::{calls, code, plain_code, program};
+pub use reading::{calls, code, plain_code, program, wrong_kind};

@@ -1,7 +1,9 @@
 // The program and the calls that a command reads, and the lines that say why it has none.
-ghost use Rattle.std.specs.Prelude.{◌≡◌, IfErr, IfOk};
+ghost use Rattle.std.specs.Prelude.{◌≡◌, ◌≢◌, IfErr, IfOk};
 ghost use Rattle.ir_rules.specs.Accepted.{IsAccepted};
 ghost use Rattle.ir_model.specs.Run.{IsValidCallList};
+ghost use Rattle.ir_rules.specs.Kinds.{kind_of};
+ghost use Rattle.ir_rules.specs.declared.place.Kind.TheVariants.{Plain};
 ghost use Rattle.ir_tree.specs.declared.types.Module.{Module};
 ghost use Rattle.pgo_shell.specs.Product.{RefusedBy};
 ghost use Rattle.command_texts.specs.Calls.{MakesCalls, calls_on};
@@ -51,6 +53,17 @@ pub fn code<'a>(alloc: Global, name: &str, module: &'a Checked) -> Result<Code<'
     }
 }
 
+/// The refusal of a program that is not plain, by its kind.
+pub fn wrong_kind(alloc: Global, name: &str, module: &Checked) -> Refusal
+    requires { kind_of «module».now.functions ≢ Plain }
+    ensures { RefusedBy (is_plain name.now «module».now) result }
+{
+    match module.kind() {
+        Kind::Plain | Kind::Counted => refused(alloc, name, b": wrong kind counted"),
+        Kind::Lowered => refused(alloc, name, b": wrong kind lowered"),
+    }
+}
+
 /// The code of a plain program. One of another kind is refused.
 pub fn plain_code<'a>(alloc: Global, name: &str, module: &'a Checked) -> Result<Code<'a>, Refusal>
     ensures code { IfOk result (λ code. code ≡ «module».now) }
@@ -59,12 +72,12 @@ pub fn plain_code<'a>(alloc: Global, name: &str, module: &'a Checked) -> Result<
 {
     match module.kind() {
         Kind::Plain => {}
-        Kind::Counted => return Err(refused(alloc, name, b": wrong kind counted")),
-        Kind::Lowered => return Err(refused(alloc, name, b": wrong kind lowered")),
+        Kind::Counted | Kind::Lowered => return Err(wrong_kind(alloc, name, module)),
     }
     match resolve(alloc, module) {
         Ok(code) => Ok(code),
-        Err(_) => Err(Refusal::NoMemory),
+        // The kind was looked at above, so that only memory can be wanting.
+        Err(ResolveError::NoMemory | ResolveError::WrongKind) => Err(Refusal::NoMemory),
     }
 }
 

@@ -1,4 +1,5 @@
 // Modules that are accepted or refused, with answers taken from the rules by hand.
+use crate::limits::counted;
 use ir_check::{CheckError, Kind, LimitKind, Place, check};
 use ir_tree::{
     BinOp, Block, Flags, Function, Instr, Module, Name, Operand, Pred, Ret, Seq, Term, Ty,
@@ -225,6 +226,23 @@ fn a_function_has_at_most_2048_registers(rt: HostRuntime) -> Result<(), Fail> {
             let limit = CheckError::Limit {
                 which: LimitKind::Registers,
                 found: 2049,
+            };
+            assert!(rt; refused.why == limit);
+        }
+    }
+    Ok(())
+}
+
+#[test]
+fn a_function_that_counts_has_at_most_4096_registers(rt: HostRuntime) -> Result<(), Fail> {
+    let alloc = rt.alloc();
+    assert!(rt; check(alloc, counted(alloc, additions(alloc, 4095)?)?).is_ok());
+    match check(alloc, counted(alloc, additions(alloc, 4096)?)?) {
+        Ok(_) => assert!(rt; false, "accepted"),
+        Err(refused) => {
+            let limit = CheckError::Limit {
+                which: LimitKind::Registers,
+                found: 4097,
             };
             assert!(rt; refused.why == limit);
         }

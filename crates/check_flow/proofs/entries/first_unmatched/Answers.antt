@@ -10,4 +10,4 @@ use Rattle.check_flow.proofs.entries.first_unmatched.Goals as goal
 pub returns : goal.returns
 returns c =
     let rule = sym (ap (λ (ps : List Place). first_of ps) (item_rule (λ f b block i x. are_matched_if_any f.blocks block.label (entries_of x)) c.args.k c.args.f.now)) in
-    subst (λ (o : Option Place). IfOk c.unmatched_in.result (λ found. found ≡ o)) rule c.unmatched_in.ensures
+    subst (λ (o : Option Place). IfOk c.unmatched_if_any.result (λ found. found ≡ o)) rule c.unmatched_if_any.ensures
