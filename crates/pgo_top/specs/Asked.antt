@@ -5,6 +5,7 @@ use Rattle.pgo_words.specs.Table.{planned}
 use Rattle.pgo_shell.specs.Shell.{Task, error_line}
 use Rattle.command_check.specs.Check.{CheckFiles, check_task}
 use Rattle.command_merge.specs.Merge.{MergeFiles, merge_task}
+use Rattle.command_print.specs.Print.{PrintFiles, print_task}
 use Rattle.command_run.specs.OnCalls.{CallFiles}
 use Rattle.command_run.specs.Run.{run_task}
 use Rattle.command_chain.specs.Chain.{chain_task}
@@ -12,6 +13,7 @@ use Rattle.command_show.specs.Show.{ShowFiles, show_task}
 
 pub data Asked : Type 0 where
   AsksCheck : CheckFiles → Asked
+  AsksPrint : PrintFiles → Asked
   AsksRun : CallFiles → Asked
   AsksChain : CallFiles → Asked
   AsksMerge : MergeFiles → Asked
@@ -38,7 +40,7 @@ merge_asked out inputs workers = if is_few (length inputs) && is_few workers the
 -- what a plan asks for; the work of the other plans is not built
 abbrev pub asked_by : Planned → Option Asked
 asked_by (Checks file) = Some (AsksCheck (record { «module» = file }))
-asked_by (Prints file) = None
+asked_by (Prints file) = Some (AsksPrint (record { «module» = file }))
 asked_by (Generates file out first) = None
 asked_by (Lowers file out) = None
 asked_by (Runs w) = run_asked w
@@ -59,6 +61,7 @@ asked words = option_and_then asked_by (planned words)
 
 abbrev pub task_of : Asked → Task
 task_of (AsksCheck f) = check_task f
+task_of (AsksPrint f) = print_task f
 task_of (AsksRun f) = run_task f
 task_of (AsksChain f) = chain_task f
 task_of (AsksMerge f) = merge_task f

@@ -1,14 +1,15 @@
 // The commands that are built.
-ghost use Rattle.std.specs.Prelude.{◌≡◌, map};
+ghost use Rattle.std.specs.Prelude.{◌≡◌, if◌then◌else◌, None, Some, map};
 ghost use Rattle.std.specs.Option.{option_map};
 ghost use Rattle.std.specs.String.{string_bytes};
-ghost use Rattle.pgo_top.specs.Asked.{asked_by, run_asked, chain_asked, is_few, merge_asked};
+ghost use Rattle.pgo_top.specs.Asked.{AsksRun, asked_by, chain_asked, is_few, merge_asked};
 ghost use Rattle.pgo_top.specs.Built.{asked_value};
 ghost use Rattle.pgo_words.specs.Plan.{plan_value};
 
 use command_chain::Chain;
 use command_check::Check;
 use command_merge::Merge;
+use command_print::Print;
 use command_run::Run;
 use command_show::Show;
 use pgo_base::Gate;
@@ -21,6 +22,7 @@ use std::thread::Threads;
 #[derive(Drop)]
 pub enum Built {
     Check(Check),
+    Print(Print),
     Run(Run),
     Chain(Chain),
     Merge(Merge),
@@ -36,6 +38,7 @@ impl Command for Built {
     fn read_name(&self, index: usize) -> Option<&str> {
         match self {
             Built::Check(check) => check.read_name(index),
+            Built::Print(print) => print.read_name(index),
             Built::Run(run) => run.read_name(index),
             Built::Chain(chain) => chain.read_name(index),
             Built::Merge(merge) => merge.read_name(index),
@@ -46,6 +49,7 @@ impl Command for Built {
     fn write_name(&self, index: usize) -> Option<&str> {
         match self {
             Built::Check(check) => check.write_name(index),
+            Built::Print(print) => print.write_name(index),
             Built::Run(run) => run.write_name(index),
             Built::Chain(chain) => chain.write_name(index),
             Built::Merge(merge) => merge.write_name(index),
@@ -62,6 +66,7 @@ impl Command for Built {
     ) -> Result<Product, Refusal> {
         match self {
             Built::Check(check) => check.product(rt, alloc, texts, gate),
+            Built::Print(print) => print.product(rt, alloc, texts, gate),
             Built::Run(run) => run.product(rt, alloc, texts, gate),
             Built::Chain(chain) => chain.product(rt, alloc, texts, gate),
             Built::Merge(merge) => merge.product(rt, alloc, texts, gate),
@@ -79,6 +84,7 @@ pub fn command_for(plan: Plan) -> Option<Built>
 {
     match plan {
         Plan::Check { module } => Some(Built::Check(Check { module })),
+        Plan::Print { module } => Some(Built::Print(Print { module })),
         Plan::Run {
             module,
             calls,
@@ -88,39 +94,21 @@ pub fn command_for(plan: Plan) -> Option<Built>
             entry_first,
             places,
         } => {
-            if workers == 1 && profile.is_none() && !entry_first && places == 8 {
-                Some(Built::Run(Run {
-                    module,
-                    calls,
-                    steps,
-                }))
-            } else {
-                None
-            }
+            let plain = workers == 1 && profile.is_none() && !entry_first && places == 8;
+            run_for(plain, module, calls, steps)
         }
         Plan::Walks {
             module,
             calls,
             steps,
-        } => {
-            if steps <= MOST_STEPS {
-                Some(Built::Chain(Chain {
-                    module,
-                    calls,
-                    steps,
-                }))
-            } else {
-                None
-            }
-        }
+        } => chain_for(module, calls, steps),
         Plan::Merge {
             out,
             inputs,
             workers,
         } => merge_for(out, inputs, workers),
         Plan::Show { input } => Some(Built::Show(Show { input })),
-        Plan::Print { .. }
-        | Plan::Gen { .. }
+        Plan::Gen { .. }
         | Plan::Lower { .. }
         | Plan::Edges { .. }
         | Plan::Annotate { .. }
@@ -129,6 +117,36 @@ pub fn command_for(plan: Plan) -> Option<Built>
         | Plan::Large { .. }
         | Plan::Layout { .. }
         | Plan::Tree { .. } => None,
+    }
+}
+
+// A `run` where it has no option but the steps.
+fn run_for(has_steps_alone: bool, module: String, calls: String, steps: u64) -> Option<Built>
+    ensures { option_map asked_value result ≡ (if has_steps_alone then Some (AsksRun (record { «module» = string_bytes «module»; calls = string_bytes calls; steps = steps })) else None) }
+{
+    if has_steps_alone {
+        Some(Built::Run(Run {
+            module,
+            calls,
+            steps,
+        }))
+    } else {
+        None
+    }
+}
+
+// A `chain` of a number of steps that is allowed.
+fn chain_for(module: String, calls: String, steps: u64) -> Option<Built>
+    ensures { option_map asked_value result ≡ chain_asked (record { «module» = string_bytes «module»; calls = string_bytes calls; steps = steps }) }
+{
+    if steps <= MOST_STEPS {
+        Some(Built::Chain(Chain {
+            module,
+            calls,
+            steps,
+        }))
+    } else {
+        None
     }
 }
 

@@ -138,7 +138,7 @@ fn words_without_a_plan_name_the_usage(rt: HostRuntime) -> Result<(), Fail> {
         &["run", "m.ll", ""],
         &["run", "-m", "c.txt"],
         // The work of these is not built.
-        &["print", "m.ll"],
+        &["gen", "m.ll", "o.ll"],
         &["run", "m.ll", "c.txt", "--workers", "2"],
         &["run", "m.ll", "c.txt", "--profile", "p"],
         &["chain", "m.ll", "c.txt", "p", "o"],
@@ -164,6 +164,41 @@ fn words_without_a_plan_name_the_usage(rt: HostRuntime) -> Result<(), Fail> {
             err.bytes(),
             b"pgo: usage: pgo COMMAND ARGUMENTS\n".as_slice()
         );
+    }
+    Ok(())
+}
+
+#[test]
+fn print_puts_the_canonical_text(rt: HostRuntime) -> Result<(), Fail> {
+    let alloc = rt.alloc();
+    let module = b"; a text\ndefine void @\"f\"(i8) { ret void }";
+    let ended = of_words(&rt, alloc, &["print", "m.ll"], module)?;
+    assert_eq!(rt; ended.status, Status::Done);
+    assert_eq!(rt;
+        ended.out.bytes(),
+        b"define void @f(i8 %0) {\n1:\n  ret void\n}\n".as_slice()
+    );
+    assert_eq!(rt; ended.err.bytes(), b"".as_slice());
+    Ok(())
+}
+
+#[test]
+fn print_says_why_a_module_is_refused(rt: HostRuntime) -> Result<(), Fail> {
+    let alloc = rt.alloc();
+    let texts: [(&[u8], &[u8]); 2] = [
+        // No token is spelled behind the sign.
+        (b"target triple = \"x86", b"pgo: m.ll: syntax at byte 16\n"),
+        // The entry block is no target.
+        (
+            b"define void @f() {\ne:\n  br label %e\n}\n",
+            b"pgo: m.ll: rule 7 at 0 0 0\n",
+        ),
+    ];
+    for (text, line) in texts {
+        let ended = of_words(&rt, alloc, &["print", "m.ll"], text)?;
+        assert_eq!(rt; ended.status, Status::Refused);
+        assert_eq!(rt; ended.out.bytes(), b"".as_slice());
+        assert_eq!(rt; ended.err.bytes(), line);
     }
     Ok(())
 }

@@ -3,13 +3,14 @@ ghost use Rattle.std.specs.Prelude.{◌≡◌, ◌⊎◌, IfOk, IsErrOf, Some, N
 ghost use Rattle.command_chain.specs.Chain.{ChainStands};
 ghost use Rattle.command_check.specs.Check.{CheckStands};
 ghost use Rattle.command_merge.specs.Merge.{MergeStands};
+ghost use Rattle.command_print.specs.Print.{PrintStands};
 ghost use Rattle.command_run.specs.Run.{RunStands};
 ghost use Rattle.command_show.specs.Show.{ShowStands};
 ghost use Rattle.pgo_shell.specs.Ended.{Ended};
 ghost use Rattle.pgo_shell.specs.Promises.{Promises};
 ghost use Rattle.pgo_shell.specs.Shell.{Front, error_line};
 ghost use Rattle.pgo_shell.specs.World.{world};
-ghost use Rattle.pgo_top.specs.Asked.{AsksChain, AsksCheck, AsksMerge, AsksRun, AsksShow, asked, task_of, usage_line};
+ghost use Rattle.pgo_top.specs.Asked.{AsksChain, AsksCheck, AsksMerge, AsksPrint, AsksRun, AsksShow, asked, task_of, usage_line};
 ghost use Rattle.pgo_top.specs.Built.{asked_value};
 ghost use Rattle.pgo_words.specs.Plan.{words_of};
 
@@ -50,6 +51,10 @@ pub fn pgo<R: Threads + Sync, S: Store, O: Sink, E: Sink, G: Gate + Sync>(
     ensures check { (f : _) → asked (words_of words.now) ≡ Some (AsksCheck f) → result ≡ Status.Done →
         S.tells store.old →
         CheckStands f (world S.Store O.Sink store.old out.old) (world S.Store O.Sink store.new out.new) }
+    // After a `print` that is `Done`: the canonical text of the program.
+    ensures print { (f : _) → asked (words_of words.now) ≡ Some (AsksPrint f) → result ≡ Status.Done →
+        S.tells store.old →
+        PrintStands f (world S.Store O.Sink store.old out.old) (world S.Store O.Sink store.new out.new) }
     // After a `run` that is `Done`: the outcomes of its calls on the program, all of them returned.
     ensures run { (f : _) → asked (words_of words.now) ≡ Some (AsksRun f) → result ≡ Status.Done →
         S.tells store.old →

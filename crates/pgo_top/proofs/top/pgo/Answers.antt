@@ -2,6 +2,7 @@
 use Rattle.command_chain.specs.Laws.{chain_stands}
 use Rattle.command_check.specs.Laws.{check_stands}
 use Rattle.command_merge.specs.Laws.{merge_stands}
+use Rattle.command_print.specs.Laws.{print_stands}
 use Rattle.command_run.specs.Laws.{run_stands}
 use Rattle.command_show.specs.Laws.{show_stands}
 use Rattle.pgo_top.specs.Asked as asked
@@ -9,6 +10,9 @@ use Rattle.pgo_top.proofs.top.pgo.Goals as goal
 
 pub returns-clause-check : goal.returns-clause-check
 returns-clause-check g c f is done told = check_stands f _ _ told ((c.perform_words.ensures.promises (asked.AsksCheck f) is).done done told)
+
+pub returns-clause-print : goal.returns-clause-print
+returns-clause-print g c f is done told = print_stands f _ _ told ((c.perform_words.ensures.promises (asked.AsksPrint f) is).done done told)
 
 pub returns-clause-run : goal.returns-clause-run
 returns-clause-run g c f is done told = run_stands f _ _ told ((c.perform_words.ensures.promises (asked.AsksRun f) is).done done told)
