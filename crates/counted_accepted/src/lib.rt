@@ -1,0 +1,6 @@
+//! The module that counts an accepted plain module is accepted.
+#![tactic(auto)]
+
+mod laws;
+
+pub use laws::{counted_is_formed, gen_is_accepted, gen_plans_fit};

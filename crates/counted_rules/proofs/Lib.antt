@@ -1,0 +1,12 @@
+pub mod Apart
+pub mod Exits
+pub mod Formed
+pub mod FunctionKept
+pub mod Grown
+pub mod HeldKept
+pub mod Instrs
+pub mod Listed
+pub mod NamesKept
+pub mod PhiKept
+pub mod PutFormed
+pub mod Ways

@@ -1,0 +1,6 @@
+//! A function that counts keeps the rules, where the plan by which it counts fits it.
+#![tactic(auto)]
+
+mod laws;
+
+pub use laws::{functions_grow_little, functions_stay_formed, names_stay_apart};

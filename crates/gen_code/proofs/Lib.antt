@@ -1,0 +1,9 @@
+pub mod Declared
+pub mod Degrees
+pub mod FirstFree
+pub mod Further
+pub mod Lists
+pub mod Made
+pub mod Numbering
+pub mod Planning
+pub mod Within

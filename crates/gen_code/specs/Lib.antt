@@ -1,0 +1,5 @@
+pub mod Ends
+pub mod Numbered
+pub mod OnEdges
+pub mod Planned
+pub mod Tables
