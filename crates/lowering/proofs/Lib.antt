@@ -1,0 +1,4 @@
+mod Deeds
+mod Symbols
+mod Steps
+mod Runs

@@ -1,0 +1,4 @@
+pub mod Asked
+pub mod Lowered
+pub mod Refusals
+pub mod Units
