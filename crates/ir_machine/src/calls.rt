@@ -87,7 +87,7 @@ fn fit_params(params: &[Ty], args: &[(Ty, Input)]) -> bool
 
 /// The registers of a function that begins: its parameters with these values, and the others 0. They take the place of
 /// `spare`.
-#[inline]
+#[inline(always)]
 pub fn first_registers(
     spare: Seq<Value>,
     function: &FunctionCode,
@@ -251,6 +251,7 @@ fn call_function(
 }
 
 /// A call of the function at an address.
+#[inline(never)]
 pub fn call(
     functions: &[FunctionCode],
     machine: &mut Machine,

@@ -2,7 +2,7 @@
 ghost use Rattle.std.specs.Prelude.{◌≡◌, ◌<◌, ◌^◌, ◌==◌, pos, ◌+ℤ◌, Some, None, [], if◌then◌else◌, length, IfOk};
 ghost use Rattle.ir_tree.specs.Types.{is_pointer_type};
 ghost use Rattle.ir_tree.specs.declared.types.Ty.TheVariants.{I1, I64};
-ghost use Rattle.ir_value.specs.Integer.{wrapped, signed_of};
+ghost use Rattle.ir_value.specs.Integer.{IsWidth, wrapped, signed_of};
 ghost use Rattle.ir_value.specs.Operators.{binary_of, compare_of};
 ghost use Rattle.ir_memory.specs.Memory.{loaded, stored};
 ghost use Rattle.ir_memory.specs.declared.value.Value.TheVariants as value;
@@ -24,6 +24,7 @@ use ir_value::{DivTrap, ValueOp, ValuePred, binary, compare, convert_signed, tru
 use pgo_base::NoMemory;
 
 /// The value of an operand of the function that runs.
+#[inline(always)]
 fn value_in(machine: &Machine, input: &Input) -> Value
     ensures { result ≡ input_value machine.now.top.registers input.now }
 {
@@ -40,6 +41,7 @@ fn number_in(machine: &Machine, ty: Ty, input: &Input) -> u64
 }
 
 /// Goes on with a value in a register.
+#[inline(always)]
 pub fn give(machine: &mut Machine, into: usize, value: Value) -> Turn
     ensures { DoesAlone machine.old (Gives (Some into) value machine.old.memory []) result machine.new }
 {
@@ -48,6 +50,7 @@ pub fn give(machine: &mut Machine, into: usize, value: Value) -> Turn
 }
 
 /// Goes on with the result of an operator in a register, or stops with its trap.
+#[inline(always)]
 fn finish(machine: &mut Machine, into: usize, outcome: Result<u64, DivTrap>) -> Turn
     ensures { DoesAlone machine.old (computed into machine.old.memory outcome) result machine.new }
 {
@@ -58,7 +61,33 @@ fn finish(machine: &mut Machine, into: usize, outcome: Result<u64, DivTrap>) -> 
     }
 }
 
+/// What an operator gives. Each that never traps is called by its name, so that it alone is put in line.
+#[inline(always)]
+fn operate(op: ValueOp, width: u32, left: u64, right: u64) -> Result<u64, DivTrap>
+    requires width { IsWidth width }
+    requires left { left < 2 ^ width }
+    requires right { right < 2 ^ width }
+    ensures { result ≡ binary_of op width left right }
+{
+    match op {
+        ValueOp::Add => binary(ValueOp::Add, width, left, right),
+        ValueOp::Sub => binary(ValueOp::Sub, width, left, right),
+        ValueOp::Mul => binary(ValueOp::Mul, width, left, right),
+        ValueOp::Shl => binary(ValueOp::Shl, width, left, right),
+        ValueOp::LShr => binary(ValueOp::LShr, width, left, right),
+        ValueOp::AShr => binary(ValueOp::AShr, width, left, right),
+        ValueOp::And => binary(ValueOp::And, width, left, right),
+        ValueOp::Or => binary(ValueOp::Or, width, left, right),
+        ValueOp::Xor => binary(ValueOp::Xor, width, left, right),
+        ValueOp::UDiv | ValueOp::SDiv | ValueOp::URem | ValueOp::SRem => {
+            let quotient = binary(op, width, left, right);
+            quotient
+        }
+    }
+}
+
 /// An operator.
+#[inline(always)]
 pub fn compute(
     machine: &mut Machine,
     into: usize,
@@ -71,10 +100,11 @@ pub fn compute(
 {
     let left = number_in(machine, ty, left);
     let right = number_in(machine, ty, right);
-    finish(machine, into, binary(op, bits_of(ty), left, right))
+    finish(machine, into, operate(op, bits_of(ty), left, right))
 }
 
 /// A comparison.
+#[inline(always)]
 pub fn compare_numbers(
     machine: &mut Machine,
     into: usize,
@@ -179,6 +209,7 @@ fn trap_of(error: MemError) -> TrapKind
 }
 
 /// A load.
+#[inline(never)]
 pub fn load(machine: &mut Machine, into: usize, ty: Ty, address: &Input) -> Turn
     ensures { DoesAlone machine.old (read_as into machine.old.memory ty (loaded machine.old.memory (values.base_of (input_value machine.old.top.registers address.now)) (values.offset_of (input_value machine.old.top.registers address.now)) (sizes.bytes_of ty) (is_pointer_type ty))) result machine.new }
 {
@@ -196,6 +227,7 @@ pub fn load(machine: &mut Machine, into: usize, ty: Ty, address: &Input) -> Turn
 }
 
 /// A store.
+#[inline(never)]
 pub fn store(machine: &mut Machine, ty: Ty, input: &Input, address: &Input) -> Turn
     ensures { DoesAlone machine.old (wrote (stored machine.old.memory (values.base_of (input_value machine.old.top.registers address.now)) (values.offset_of (input_value machine.old.top.registers address.now)) (sizes.bytes_of ty) (values.at_type ty (input_value machine.old.top.registers input.now)))) result machine.new }
 {

@@ -17,6 +17,7 @@ use pgo_base::NoMemory;
 use std::mem;
 
 /// The edge of the block by the successor at a position, as it is seen.
+#[inline(always)]
 fn sight_of(machine: &Machine, position: usize) -> Sight
     ensures { result ≡ sight.Left machine.now.top.function machine.now.top.block position }
 {
@@ -142,7 +143,8 @@ fn switch(
 }
 
 /// Leaves a block.
-pub fn leave(machine: &mut Machine, edges: &[EdgeCode], exit: &Exit) -> Result<Turn, NoMemory>
+#[inline(never)]
+fn leave_any(machine: &mut Machine, edges: &[EdgeCode], exit: &Exit) -> Result<Turn, NoMemory>
     ensures { IfOk result (λ turn. Comes machine.old (λ fr rest sh. spec.exited fr rest sh edges.now (spec.choice machine.old.top.registers exit.now)) turn machine.new) }
 {
     let registers = machine.top.registers.as_slice();
@@ -158,5 +160,29 @@ pub fn leave(machine: &mut Machine, edges: &[EdgeCode], exit: &Exit) -> Result<T
             Ok(give_back(machine, value))
         }
         Exit::Unreachable => Ok(Turn::Traps(TrapKind::Unreachable)),
+    }
+}
+
+/// Leaves a block, out of the loop over the steps.
+#[inline(always)]
+fn leave_apart(machine: &mut Machine, edges: &[EdgeCode], exit: &Exit) -> Result<Turn, NoMemory>
+    ensures { IfOk result (λ turn. Comes machine.old (λ fr rest sh. spec.exited fr rest sh edges.now (spec.choice machine.old.top.registers exit.now)) turn machine.new) }
+{
+    let turn = leave_any(machine, edges, exit)?;
+    Ok(turn)
+}
+
+/// Leaves a block. The loop over the steps has the branches in line, and the rest out of it.
+#[inline(always)]
+pub fn leave(machine: &mut Machine, edges: &[EdgeCode], exit: &Exit) -> Result<Turn, NoMemory>
+    ensures { IfOk result (λ turn. Comes machine.old (λ fr rest sh. spec.exited fr rest sh edges.now (spec.choice machine.old.top.registers exit.now)) turn machine.new) }
+{
+    match exit {
+        Exit::Go => walk(machine, edges, 0),
+        Exit::Choose { cond } => {
+            let cond = number_of(machine.top.registers.as_slice(), Ty::I1, cond);
+            walk(machine, edges, if cond == 0 { 1 } else { 0 })
+        }
+        _ => leave_apart(machine, edges, exit),
     }
 }

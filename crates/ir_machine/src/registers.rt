@@ -10,6 +10,7 @@ use ir_value::truncate;
 use pgo_base::NoMemory;
 
 /// The value at a place, 0 where there is none.
+#[inline(always)]
 fn value_at(values: &[Value], place: usize) -> Value
     ensures { result ≡ register_value values.now place }
 {
@@ -17,6 +18,7 @@ fn value_at(values: &[Value], place: usize) -> Value
 }
 
 /// The value of an operand, 0 at a register that is not there.
+#[inline(always)]
 pub fn value_of(registers: &[Value], input: &Input) -> Value
     ensures { result ≡ input_value registers.now input.now }
 {
@@ -78,6 +80,7 @@ pub fn typed_value_of(registers: &[Value], ty: Ty, input: &Input) -> Value
 }
 
 /// Puts a value into a register.
+#[inline(always)]
 pub fn assign(registers: &mut [Value], register: usize, value: Value)
     ensures { registers.new ≡ slice_set registers.old register value }
 {
@@ -87,6 +90,7 @@ pub fn assign(registers: &mut [Value], register: usize, value: Value)
 }
 
 /// Puts a value into a register at the type of the target.
+#[inline(always)]
 pub fn assign_target(registers: &mut [Value], target: Target, value: Value)
     ensures { registers.new ≡ with_target registers.old (Some target) value }
 {

@@ -1,7 +1,11 @@
 // One step of the machine.
-ghost use Rattle.std.specs.Prelude.{◌≡◌, Some, length, slice_get, IfOk};
+ghost use Rattle.std.specs.Prelude.{◌≡◌, Some, length, map, slice_get, IfOk};
+ghost use Rattle.ir_tree.specs.Types.{is_pointer_type};
+ghost use Rattle.ir_memory.specs.Memory.{loaded, stored};
+ghost use Rattle.ir_model.specs.Sizes as sizes;
+ghost use Rattle.ir_model.specs.Values as values;
 ghost use Rattle.ir_machine.specs.Steps as spec;
-ghost use Rattle.ir_machine.specs.Steps.{code_step, deed, state_of, After, Comes, Does};
+ghost use Rattle.ir_machine.specs.Steps.{code_step, deed, input_value, read_as, state_of, valued, wrote, After, Comes, Does, DoesAlone};
 
 use crate::calls::{call, note};
 use crate::deeds::{
@@ -9,13 +13,14 @@ use crate::deeds::{
 };
 use crate::exits::leave;
 use crate::state::{Machine, Turn};
-use ir_code::{BlockCode, FunctionCode, Op};
+use ir_code::{BlockCode, FunctionCode, Input, Op, Target};
 use ir_model::TrapKind;
+use ir_tree::{Ret, Ty};
 use pgo_base::NoMemory;
 
 /// Performs an operation that the machine counts as done.
-#[inline(always)]
-fn perform(functions: &[FunctionCode], machine: &mut Machine, op: &Op) -> Result<Turn, NoMemory>
+#[inline(never)]
+fn perform_any(functions: &[FunctionCode], machine: &mut Machine, op: &Op) -> Result<Turn, NoMemory>
     ensures { IfOk result (λ turn. Does functions.now machine.old (deed machine.old.top.registers (length functions.now) machine.old.memory op.now) turn machine.new) }
 {
     match op {
@@ -69,6 +74,91 @@ fn perform(functions: &[FunctionCode], machine: &mut Machine, op: &Op) -> Result
         } => add(machine, *unit, counter, step),
         Op::Note { unit, site, target } => note(functions.len(), machine, *unit, site, target),
         Op::Fail => Ok(Turn::Traps(TrapKind::Unreachable)),
+    }
+}
+
+/// A load, out of the loop over the steps.
+#[inline(always)]
+fn load_apart(machine: &mut Machine, into: usize, ty: Ty, address: &Input) -> Result<Turn, NoMemory>
+    ensures { IfOk result (λ turn. DoesAlone machine.old (read_as into machine.old.memory ty (loaded machine.old.memory (values.base_of (input_value machine.old.top.registers address.now)) (values.offset_of (input_value machine.old.top.registers address.now)) (sizes.bytes_of ty) (is_pointer_type ty))) turn machine.new) }
+{
+    let turn = load(machine, into, ty, address);
+    Ok(turn)
+}
+
+/// A store, out of the loop over the steps.
+#[inline(always)]
+fn store_apart(
+    machine: &mut Machine,
+    ty: Ty,
+    input: &Input,
+    address: &Input,
+) -> Result<Turn, NoMemory>
+    ensures { IfOk result (λ turn. DoesAlone machine.old (wrote (stored machine.old.memory (values.base_of (input_value machine.old.top.registers address.now)) (values.offset_of (input_value machine.old.top.registers address.now)) (sizes.bytes_of ty) (values.at_type ty (input_value machine.old.top.registers input.now)))) turn machine.new) }
+{
+    let turn = store(machine, ty, input, address);
+    Ok(turn)
+}
+
+/// A call, out of the loop over the steps.
+#[inline(always)]
+fn call_apart(
+    functions: &[FunctionCode],
+    machine: &mut Machine,
+    into: Option<Target>,
+    ret: Ret,
+    callee: &Input,
+    args: &[(Ty, Input)],
+) -> Result<Turn, NoMemory>
+    ensures { IfOk result (λ turn. Does functions.now machine.old (spec.Calls into ret (values.as_number (input_value machine.old.top.registers callee.now)) (map (valued machine.old.top.registers) args.now)) turn machine.new) }
+{
+    let turn = call(functions, machine, into, ret, callee, args)?;
+    Ok(turn)
+}
+
+/// Any operation, out of the loop over the steps.
+#[inline(always)]
+fn perform_apart(
+    functions: &[FunctionCode],
+    machine: &mut Machine,
+    op: &Op,
+) -> Result<Turn, NoMemory>
+    ensures { IfOk result (λ turn. Does functions.now machine.old (deed machine.old.top.registers (length functions.now) machine.old.memory op.now) turn machine.new) }
+{
+    let turn = perform_any(functions, machine, op)?;
+    Ok(turn)
+}
+
+/// Performs an operation that the machine counts as done. The loop over the steps has the operators and comparisons in
+/// line, and the rest out of it. What comes from there is taken apart, so that the turn itself stays in registers.
+#[inline(always)]
+fn perform(functions: &[FunctionCode], machine: &mut Machine, op: &Op) -> Result<Turn, NoMemory>
+    ensures { IfOk result (λ turn. Does functions.now machine.old (deed machine.old.top.registers (length functions.now) machine.old.memory op.now) turn machine.new) }
+{
+    match op {
+        Op::Binary {
+            into,
+            op,
+            ty,
+            left,
+            right,
+        } => Ok(compute(machine, *into, *op, *ty, left, right)),
+        Op::Compare {
+            into,
+            pred,
+            ty,
+            left,
+            right,
+        } => Ok(compare_numbers(machine, *into, *pred, *ty, left, right)),
+        Op::Load { into, ty, address } => load_apart(machine, *into, *ty, address),
+        Op::Store { ty, value, address } => store_apart(machine, *ty, value, address),
+        Op::Call {
+            into,
+            ret,
+            callee,
+            args,
+        } => call_apart(functions, machine, *into, *ret, callee, args.as_slice()),
+        _ => perform_apart(functions, machine, op),
     }
 }
 

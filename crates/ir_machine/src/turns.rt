@@ -13,6 +13,7 @@ use ir_model::{End, Probe};
 use pgo_base::NoMemory;
 
 /// The end that a step comes to.
+#[inline(always)]
 fn end_of(turn: Turn) -> Option<End>
     ensures { result ≡ turn_end turn }
 {
@@ -24,6 +25,7 @@ fn end_of(turn: Turn) -> Option<End>
 }
 
 /// What is seen of a step.
+#[inline(always)]
 fn seen(turn: Turn) -> Option<Sight>
     ensures { listed result ≡ turn_sights turn }
 {
@@ -34,6 +36,7 @@ fn seen(turn: Turn) -> Option<Sight>
 }
 
 /// Tells the watcher what is seen of a step, and the probe the mark in it.
+#[inline(always)]
 fn hear<P: Probe, W: Watcher>(
     turn: Turn,
     counters: u32,

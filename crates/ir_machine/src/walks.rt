@@ -37,6 +37,7 @@ impl Watcher for Nobody {
 
 /// Tells a probe the mark that is seen, if it is one, of so many counters and sites. The answer is `NoMemory` for one
 /// past these, which no code has.
+#[inline(always)]
 pub fn tell<P: Probe>(
     probe: &mut P,
     counters: u32,
