@@ -5,6 +5,7 @@ use Rattle.ir_tree.specs.Edges.{rows}
 use Rattle.ir_tree.specs.FunctionNames.{indexed}
 use Rattle.ir_tree.specs.Locals.{first_local}
 use Rattle.ir_tree.specs.Reach.{AreRows}
+use Rattle.ir_tree.specs.declared.types.Block.{Block}
 use Rattle.ir_assigned.proofs.unready.first_unready.Goals as goal
 
 pub push_blocks-requires-clause-known : goal.push_blocks-requires-clause-known
@@ -13,19 +14,22 @@ push_blocks-requires-clause-known c n l h =
     let within : l.block < length c.args.f.now.blocks = finds.within n l (sym (c.requires.known n) ∙ h) in
     omega (arith, within, c.requires.resolved.few)
 
-pub first_exposed-requires-clause-rows : goal.first_exposed-requires-clause-rows
-first_exposed-requires-clause-rows c = subst (λ (rs : List (List ℕ)). AreRows rs) (sym (c.in_ok-rows.ensures ∙ ap rows c.as_slice-blocks.ensures)) (are_rows c.args.f.now.blocks (some_blocks c.args.f.now c.requires.resolved.named.defined))
+pub first_use-requires-clause-few : goal.first_use-requires-clause-few
+first_use-requires-clause-few c = subst (λ (bs : List Block). length bs < 4294967296) (sym c.as_slice-blocks.ensures) c.requires.resolved.few
 
-pub first_exposed-requires-clause-givers : goal.first_exposed-requires-clause-givers
-first_exposed-requires-clause-givers c =
-    uses_givers c.args.f.now.blocks (first_local c.args.f.now) (c.look_ups_tell.ensures.names c.args.f.now c.requires.resolved.named).within c.as_slice-2.result.now c.in_ok-rows.rows c.as_slice.result.now (c.as_slice-2.ensures.value ∙ c.in_ok-uses.ensures) (c.as_slice.ensures.value ∙ gathered c.args.f.now (indexed c.args.known.now) c.requires.known c.new-reads.result.items c.push_blocks.new.reads.items c.as_slice-blocks.result.now c.new-reads.ensures.items c.as_slice-blocks.ensures c.in_ok-push_blocks.ensures) (c.in_ok-rows.ensures ∙ ap rows c.as_slice-blocks.ensures)
+pub first_use-requires-clause-graph : goal.first_use-requires-clause-graph
+first_use-requires-clause-graph c = subst (λ (bs : List Block). AreRows (rows bs)) (sym c.as_slice-blocks.ensures) (are_rows c.args.f.now.blocks (some_blocks c.args.f.now c.requires.resolved.named.defined))
 
-pub first_exposed-requires-clause-places : goal.first_exposed-requires-clause-places
-first_exposed-requires-clause-places c =
-    uses_places c.args.f.now.blocks (first_local c.args.f.now) (c.look_ups_tell.ensures.names c.args.f.now c.requires.resolved.named).within c.as_slice-2.result.now c.in_ok-rows.rows c.as_slice.result.now (c.as_slice-2.ensures.value ∙ c.in_ok-uses.ensures) (c.as_slice.ensures.value ∙ gathered c.args.f.now (indexed c.args.known.now) c.requires.known c.new-reads.result.items c.push_blocks.new.reads.items c.as_slice-blocks.result.now c.new-reads.ensures.items c.as_slice-blocks.ensures c.in_ok-push_blocks.ensures) (c.in_ok-rows.ensures ∙ ap rows c.as_slice-blocks.ensures)
+pub first_use-requires-clause-givers : goal.first_use-requires-clause-givers
+first_use-requires-clause-givers c =
+    uses_givers c.args.f.now.blocks (first_local c.args.f.now) (c.look_ups_tell.ensures.names c.args.f.now c.requires.resolved.named).within c.as_slice-2.result.now (rows c.as_slice-blocks.result.now) c.as_slice.result.now (c.as_slice-2.ensures.value ∙ c.in_ok-uses.ensures) (c.as_slice.ensures.value ∙ gathered c.args.f.now (indexed c.args.known.now) c.requires.known c.new-reads.result.items c.push_blocks.new.reads.items c.as_slice-blocks.result.now c.new-reads.ensures.items c.as_slice-blocks.ensures c.in_ok-push_blocks.ensures) (ap rows c.as_slice-blocks.ensures)
+
+pub first_use-requires-clause-places : goal.first_use-requires-clause-places
+first_use-requires-clause-places c =
+    uses_places c.args.f.now.blocks (first_local c.args.f.now) (c.look_ups_tell.ensures.names c.args.f.now c.requires.resolved.named).within c.as_slice-2.result.now (rows c.as_slice-blocks.result.now) c.as_slice.result.now (c.as_slice-2.ensures.value ∙ c.in_ok-uses.ensures) (c.as_slice.ensures.value ∙ gathered c.args.f.now (indexed c.args.known.now) c.requires.known c.new-reads.result.items c.push_blocks.new.reads.items c.as_slice-blocks.result.now c.new-reads.ensures.items c.as_slice-blocks.ensures c.in_ok-push_blocks.ensures) (ap rows c.as_slice-blocks.ensures)
 
 pub returns : goal.returns
 returns c =
     c.spot_of.ensures ∙ first_spot c.args.f.now c.requires.resolved (c.look_ups_tell.ensures.names c.args.f.now c.requires.resolved.named) (c.look_ups_tell.ensures.registers c.args.f.now c.requires.resolved.named) c.as_slice-3.result.now c.in_ok-found.found
     (c.as_slice-3.ensures.value ∙ gathered c.args.f.now (indexed c.args.known.now) c.requires.known c.new-reads.result.items c.push_blocks.new.reads.items c.as_slice-blocks.result.now c.new-reads.ensures.items c.as_slice-blocks.ensures c.in_ok-push_blocks.ensures)
-    (placed_by c.args.f.now.blocks c.as_slice-2.result.now c.in_ok-rows.rows c.as_slice.result.now c.as_slice-3.result.now c.in_ok-found.found (c.in_ok-rows.ensures ∙ ap rows c.as_slice-blocks.ensures) (c.as_slice-2.ensures.value ∙ c.in_ok-uses.ensures) (c.as_slice.ensures.value ∙ sym c.as_slice-3.ensures.value) c.in_ok-found.ensures)
+    (placed_by c.args.f.now.blocks c.as_slice-2.result.now (rows c.as_slice-blocks.result.now) c.as_slice.result.now c.as_slice-3.result.now c.in_ok-found.found (ap rows c.as_slice-blocks.ensures) (c.as_slice-2.ensures.value ∙ c.in_ok-uses.ensures) (c.as_slice.ensures.value ∙ sym c.as_slice-3.ensures.value) c.in_ok-found.ensures)
