@@ -1,0 +1,11 @@
+mod Blocks
+mod Data
+mod Functions
+mod Globals
+mod HashSmall
+mod Instrs
+mod Listed
+mod Sizes
+mod Symbols
+mod Told
+mod Turned

@@ -1,0 +1,9 @@
+//! A module that is lowered keeps the rules.
+#![tactic(auto)]
+
+mod laws;
+
+pub use laws::{
+    functions_stay_formed, functions_stay_small, globals_stay_formed, kind_is_lowered,
+    symbols_stay_apart, units_are_told,
+};
