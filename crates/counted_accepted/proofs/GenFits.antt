@@ -10,7 +10,7 @@ use Rattle.count_plan.specs.declared.plan.Watch.{Watch}
 use Rattle.count_plan.specs.declared.plan.Watch.TheVariants.{Nothing}
 use Rattle.counted_accepted.proofs.FreshNames.{Name}
 use Rattle.counted_accepted.proofs.GenNames.{first_made, names_apart, new_free, new_is, new_tag, place_of, plan_is, stands, unit, watch_is}
-use Rattle.counted_rules.specs.PlanFits.{IsCounter, PlanFits, WatchFits, increment_signature, new_names, step_signature, value_signature}
+use Rattle.counted_rules.specs.PlanFits.{CounterFits, IsCounter, IsUnit, PlanFits, WatchFits, increment_signature, new_names, step_signature, value_signature}
 use Rattle.gen_plan.specs.Gen.{number_of, record_name, select_watch, site_watch, watch_of}
 use Rattle.gen_plan.specs.Placing.{at_head, at_tail, counter_of, enters, leaves}
 use Rattle.ir_rules.specs.Finding.{FindsNames}
@@ -53,16 +53,19 @@ module _ (m : Module) (f : Function) (g : FlowGraph) (counted : List ℕ) (hash 
       let most = known.room in
       and_from (nat_le 1 (length counted + length g.selects)) (nat_le (length counted + length g.selects) 1048576) (le-leb 1 (length counted + length g.selects) (omega (arith, h))) (le-leb (length counted + length g.selects) 1048576 most)
 
-  counter_fits : (c : ℕ) → c < length counted + length g.selects → IsCounter (unit f g counted hash) c
-  counter_fits c h = (let most = known.room in lt-ltb c (2 ^ 32) (omega (arith, h, most)), total c h)
+  of_unit : IsUnit m (unit f g counted hash)
+  of_unit = record { known = has.known; hash = lt-ltb hash (2 ^ 64) known.small }
 
-  rank_fits : (e c : ℕ) → counter_of counted e ≡ Some c → IsCounter (unit f g counted hash) c
+  counter_fits : (c : ℕ) → c < length counted + length g.selects → IsCounter m (unit f g counted hash) c
+  counter_fits c h = record { of_unit = of_unit; total = total c h; number = (let most = known.room in lt-ltb c (2 ^ 32) (omega (arith, h, most))) }
+
+  rank_fits : (e c : ℕ) → counter_of counted e ≡ Some c → CounterFits m (unit f g counted hash) c
   rank_fits e c is =
       let r = at_position (λ (d : ℕ). d == e) counted c is in
       let w = slice_get_within counted c r.0 r.1 in
-      counter_fits c (omega (arith, w))
+      (counter_fits c (omega (arith, w)), has.increments)
 
-  first_fits : (test : Edge → Bool) (c : ℕ) → first_of (each (λ k e. cond (test e) (listed (counter_of counted k)) []) 0 g.edges) ≡ Some c → IsCounter (unit f g counted hash) c
+  first_fits : (test : Edge → Bool) (c : ℕ) → first_of (each (λ k e. cond (test e) (listed (counter_of counted k)) []) 0 g.edges) ≡ Some c → CounterFits m (unit f g counted hash) c
   first_fits test c e = (let r = first_made test (λ k. counter_of counted k) 0 g.edges c e in rank_fits (0 + r.0) c r.4)
 
   watch_fits : (j i : ℕ) (x : Instr) → WatchFits m (unit f g counted hash) (watch_of f g counted j i x)
@@ -72,16 +75,13 @@ module _ (m : Module) (f : Function) (g : FlowGraph) (counted : List ℕ) (hash 
       by true t None e b d = tt
       by true t (Some q) e b d = (let w = slice_get_within g.selects q (j, i) (place_of j i q g.selects e) in (counter_fits (length counted + q) (omega (arith, w)), has.steps (omega (arith, w))))
       by false true a e None d = tt
-      by false true a e (Some q) d = (let w = slice_get_within g.sites q (j, i) (place_of j i q g.sites d) in let most = known.sites in (lt-ltb q 65536 (omega (arith, w, most)), has.values))
+      by false true a e (Some q) d = (let w = slice_get_within g.sites q (j, i) (place_of j i q g.sites d) in let most = known.sites in (of_unit, lt-ltb q 65536 (omega (arith, w, most)), has.values))
       by false false a e b d = tt
 
   pub plan_fits : PlanFits m (unit f g counted hash) f
   plan_fits = record {
     apart = λ n. names_apart f g counted hash known.few known.whole n known.finds (known.once n);
     named = λ n at. (new_free f g counted hash known.few known.whole n (stands n (new_names (unit f g counted hash) f.blocks) at)).1;
-    known = has.known;
-    hash = lt-ltb hash (2 ^ 64) known.small;
-    increments = has.increments;
     head = λ j c b at e. first_fits (λ d. enters g j d && at_head g d) c (sym (ap (λ (q : BlockPlan). q.head) (plan_is f g counted hash j b at)) ∙ e);
     tail = λ j c b at e. first_fits (λ d. leaves j d && at_tail g d) c (sym (ap (λ (q : BlockPlan). q.tail) (plan_is f g counted hash j b at)) ∙ e);
     watch = λ j i b x at here. subst (λ (w : Watch). WatchFits m (unit f g counted hash) w) (sym (ap (λ (q : BlockPlan). watch_at q i) (plan_is f g counted hash j b at) ∙ watch_is f g counted hash j b i x here)) (watch_fits j (phi_count b.instrs + i) x);

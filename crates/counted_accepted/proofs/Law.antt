@@ -1,13 +1,15 @@
 -- Of accepted plain modules: what is known of each function, and that its plan fits.
-use Rattle.std.proofs.Common.{◌≡◌, ℕ, suc, ◌+◌, ◌≤◌, Bool, false, cond, List, [], ◌∷◌, length, sum_by, Some, slice_get, refl, sym, ap, subst, arith, inl, inr}
+use Rattle.std.proofs.Common.{◌≡◌, ℕ, suc, ◌+◌, ◌≤◌, Bool, false, cond, List, [], ◌∷◌, length, sum_by, Some, slice_get, refl, sym, ap, arith, inl, inr}
+use Rattle.std.proofs.lemmas.List.Sums.{sum_by-cons}
 use Rattle.cfg_edges.specs.Graph.{IsFlowGraph, IsGraphOf}
 use Rattle.cfg_tree.specs.Tree.{order_of}
 use Rattle.counted_accepted.proofs.GenFits.{Counts, Provides, plan_fits}
 use Rattle.counted_accepted.proofs.GraphSize.{counted_few, edges_few, selects_few, sites_few}
 use Rattle.counted_accepted.proofs.HashSmall.{hash_small}
 use Rattle.counted_accepted.proofs.Modules.{increments_known, steps_known, unit_known, values_known}
-use Rattle.counted_accepted.proofs.Within.{IsWithin, part_of_sum, passed_none}
+use Rattle.counted_rules.specs.PlainNames.{IsPlainName}
 use Rattle.counted_rules.specs.PlanFits.{PlanFits}
+use Rattle.counted_rules.specs.Within.{IsWithin}
 use Rattle.gen_plan.specs.Countable.{CanCount}
 use Rattle.gen_plan.specs.Gen.{counted, counted_edges, gen_function, gen_hash}
 use Rattle.ir_rules.specs.Accepted.{IsAccepted}
@@ -15,7 +17,7 @@ use Rattle.ir_rules.specs.Finding.{LookUpsTell}
 use Rattle.ir_rules.specs.Kinds.{kind_of}
 use Rattle.ir_rules.specs.Limits.{counters, total_of}
 use Rattle.ir_rules.specs.Lists.{Among}
-use Rattle.ir_rules.specs.declared.place.Kind.{Kind}
+use Rattle.ir_rules.specs.Scopes.{symbols}
 use Rattle.ir_rules.specs.declared.place.Kind.TheVariants.{Plain}
 use Rattle.ir_tree.specs.Edges.{edges_in}
 use Rattle.ir_tree.specs.Functions.{is_declared}
@@ -29,6 +31,11 @@ place [] f at = absurd at
 place (g ∷ gs) f (inl e) = (0, ap Some (sym e))
 place (g ∷ gs) f (inr at) = (let r = place gs f at in (suc r.0, r.1))
 
+part_of_sum : {X : Type 0} (g : X → ℕ) (xs : List X) (x : X) → Among x xs → g x ≤ sum_by g xs
+part_of_sum g [] x at = absurd at
+part_of_sum g (y ∷ ys) x (inl e) = (let same : g x ≡ g y = ap g e in omega (arith, same, sum_by-cons g y ys))
+part_of_sum g (y ∷ ys) x (inr at) = omega (arith, sum_by-cons g y ys, part_of_sum g ys x at)
+
 counters_are : (f : Function) → counters f ≡ edges_in f + count_in is_select f.blocks
 unfolding counters total_of
 counters_are f = refl
@@ -37,10 +44,7 @@ sites_are : (f : Function) → total_of is_site f ≡ count_in is_site f.blocks
 unfolding total_of
 sites_are f = refl
 
-module _ (entry_first : Bool) (m : Module) (accepted : IsAccepted m) (plain : kind_of m.functions ≡ Plain) (can : CanCount m) (tells : LookUpsTell) (relation : (f : Function) → HasGraph f → IsGraphOf f (graph_of f)) (whole : (f : Function) → HasGraph f → IsFlowGraph (graph_of f)) where
-  within : IsWithin Plain m
-  within = subst (λ (kind : Kind). IsWithin kind m) plain (passed_none m accepted.within)
-
+module _ (entry_first : Bool) (m : Module) (accepted : IsAccepted m) (plain : kind_of m.functions ≡ Plain) (plain_name : (n : List ℕ) → Among n (symbols m) → IsPlainName n) (within : IsWithin Plain m) (can : CanCount m) (tells : LookUpsTell) (relation : (f : Function) → HasGraph f → IsGraphOf f (graph_of f)) (whole : (f : Function) → HasGraph f → IsFlowGraph (graph_of f)) where
   module _ (f : Function) (at : Among f m.functions) (some : is_declared f ≡ false) where
     spot : (k : ℕ) × (slice_get m.functions k ≡ Some f)
     spot = place m.functions f at
@@ -83,10 +87,10 @@ module _ (entry_first : Bool) (m : Module) (accepted : IsAccepted m) (plain : ki
 
     provides : Provides (counted entry_first m) f (graph_of f)
     provides = record {
-      known = unit_known entry_first m accepted plain f at some;
-      increments = increments_known entry_first m accepted plain;
-      values = values_known entry_first m accepted plain;
-      steps = steps_known entry_first m accepted plain f at some;
+      known = unit_known entry_first m accepted plain plain_name f at some;
+      increments = increments_known entry_first m accepted plain plain_name;
+      values = values_known entry_first m accepted plain plain_name;
+      steps = steps_known entry_first m accepted plain plain_name f at some;
     }
 
     pub gen_fits : PlanFits (counted entry_first m) (gen_function entry_first f) f

@@ -7,4 +7,3 @@ pub mod Law
 pub mod LimitsKept
 pub mod Modules
 pub mod Symbols
-pub mod Within

@@ -1,21 +1,22 @@
 -- The module that counts an accepted plain module is within the limits of its kind.
-use Rattle.std.proofs.Common.{◌≡◌, ℕ, suc, ◌+◌, ◌*◌, ◌≤◌, ◌==◌, ◌⊎◌, inl, inr, Bool, true, false, cond, not, ◌||◌, List, [], ◌∷◌, ◌++◌, length, map, filter, count_by, sum_by, refl, sym, ap, subst, ◌∙◌, arith}
+use Rattle.std.proofs.Common.{◌≡◌, ℕ, suc, ◌+◌, ◌*◌, ◌≤◌, ◌⊎◌, inl, inr, Bool, true, false, cond, not, ◌||◌, List, [], ◌∷◌, ◌++◌, length, map, filter, count_by, sum_by, refl, sym, ap, subst, ◌∙◌, arith}
 use Rattle.std.specs.Prelude.{max, unwrap_or}
 use Rattle.std.specs.List.{flat_map, list_any}
-use Rattle.std.proofs.lemmas.Bool.{eq-eqb, eqb-true}
 use Rattle.std.proofs.lemmas.List.{length-append, length-map}
 use Rattle.std.proofs.lemmas.List.Sums.{sum_by-append, sum_by-cons}
 use Rattle.count_plan.specs.Calls.{increment_name, step_name, value_name}
 use Rattle.count_plan.specs.Counted.{counted_function}
-use Rattle.counted_accepted.proofs.Modules.{among_either, among_left, among_right, functions_are, global_symbol, kind_is, map_among, plain_name}
-use Rattle.counted_accepted.proofs.Symbols.{Name, no_unit_counters, no_unit_part, record_unit}
-use Rattle.counted_accepted.proofs.Within.{IsWithin, passed_none, within_passes}
+use Rattle.counted_accepted.proofs.Modules.{among_either, among_left, among_right, functions_are, global_symbol, kind_is, map_among}
+use Rattle.counted_accepted.proofs.Symbols.{Name, no_unit_part, record_unit}
 use Rattle.counted_rules.specs.Grown.{FunctionsGrowLittle}
+use Rattle.counted_rules.specs.PlainNames.{IsPlainName}
+use Rattle.counted_rules.specs.Within.{IsWithin, LimitsAreKept}
 use Rattle.gen_plan.specs.Gen.{counted, declaration, declarations, gen_function, has_select, record_global, record_name}
 use Rattle.ir_rules.specs.Accepted.{IsAccepted}
 use Rattle.ir_rules.specs.Kinds.{is_profile_variable, is_unit_counters, is_unit_data, kind_of}
-use Rattle.ir_rules.specs.Limits.{all_arrays, array_sizes, calls_through, cells, cells_of, function_arrays, global_arrays, has_result, most, passed, registers, told_counters, total_of}
+use Rattle.ir_rules.specs.Limits.{all_arrays, array_sizes, calls_through, cells, cells_of, function_arrays, global_arrays, has_result, passed, registers, told_counters, total_of}
 use Rattle.ir_rules.specs.Lists.{Among}
+use Rattle.ir_rules.specs.Scopes.{symbols}
 use Rattle.ir_rules.specs.Sizes.{size_of}
 use Rattle.ir_rules.specs.Units.{is_i64, length_of}
 use Rattle.ir_rules.specs.declared.place.Kind.{Kind}
@@ -125,11 +126,7 @@ edges_twice f g still h = by (is_declared f) refl (is_declared g) refl
         let y : cond {A = ℕ} (is_declared f) 0 (1 + sum_by ways_out f.blocks) ≡ 1 + sum_by ways_out f.blocks = ap (λ (b : Bool). cond {A = ℕ} b 0 (1 + sum_by ways_out f.blocks)) e in
         omega (arith, x, y, h)
 
-few_ways : (bs : List Block) → length bs ≤ sum_by ways_out bs
-few_ways [] = omega arith
-few_ways (b ∷ bs) = (let rest = few_ways bs in omega (arith, rest, sum_by-cons ways_out b bs))
-
-module _ (entry_first : Bool) (m : Module) (accepted : IsAccepted m) (plain : kind_of m.functions ≡ Plain) (grow : FunctionsGrowLittle) where
+module _ (entry_first : Bool) (m : Module) (accepted : IsAccepted m) (plain : kind_of m.functions ≡ Plain) (plain_name : (n : Name) → Among n (symbols m) → IsPlainName n) (limits : LimitsAreKept) (grow : FunctionsGrowLittle) where
   abbrev m2 : Module
   m2 = counted entry_first m
 
@@ -140,10 +137,10 @@ module _ (entry_first : Bool) (m : Module) (accepted : IsAccepted m) (plain : ki
   records = map (λ (f : Function). record_global f.name) (filter (λ f. not (is_declared f)) m.functions)
 
   within : IsWithin Plain m
-  within = subst (λ (kind : Kind). IsWithin kind m) plain (passed_none m accepted.within)
+  within = subst (λ (kind : Kind). IsWithin kind m) plain ((limits m).0 accepted.within)
 
   are : m2.functions ≡ map counting m.functions ++ declarations m.functions
-  are = functions_are entry_first m accepted plain
+  are = functions_are entry_first m accepted plain plain_name
 
   few_declarations : length (declarations m.functions) ≤ 3
   few_declarations = by (list_any has_select m.functions)
@@ -186,19 +183,7 @@ module _ (entry_first : Bool) (m : Module) (accepted : IsAccepted m) (plain : ki
       by (inr (inr (inr h))) = last (list_any has_select m.functions) h
 
   still_declared : (f : Function) → is_declared f ≡ true → is_declared (counting f) ≡ true
-  still_declared f e =
-      let none : length f.blocks ≡ 0 = eqb-true (length f.blocks) 0 e in
-      by f.blocks none (grow (gen_function entry_first f) f).edges
-    where
-      few : (k : ℕ) → k ≡ 0 → (k == 0) ≡ true
-      few k e = eq-eqb k 0 e
-
-      empty : (bs : List Block) → length bs ≡ 0 → sum_by ways_out bs ≡ 0
-      empty [] h = refl
-      empty (b ∷ bs) h = absurd (omega (arith, h))
-
-      by : (bs : List Block) → length bs ≡ 0 → sum_by ways_out (counting f).blocks ≤ 2 * sum_by ways_out f.blocks → is_declared (counting f) ≡ true
-      by bs h most = (let z = empty f.blocks (eqb-true (length f.blocks) 0 e) in let l = few_ways (counting f).blocks in few (length (counting f).blocks) (omega (arith, z, l, most)))
+  still_declared f e = (grow (gen_function entry_first f) f).declared ∙ e
 
   edges_few : (f : Function) → Among f m2.functions → edges_in f ≤ 2097152
   edges_few = each_function (λ f. edges_in f ≤ 2097152)
@@ -213,7 +198,7 @@ module _ (entry_first : Bool) (m : Module) (accepted : IsAccepted m) (plain : ki
   -- ---- globals
 
   old_part : (g : Global1) → Among g m.globals → (is_profile_variable Counted g.name ≡ false)
-  old_part g at = no_unit_part g.name (plain_name entry_first m accepted plain g.name (global_symbol entry_first m accepted plain g at))
+  old_part g at = no_unit_part g.name (plain_name g.name (global_symbol entry_first m accepted plain plain_name g at))
 
   new_part : (n : Name) → is_profile_variable Counted (record_name n) ≡ true
   new_part n = ap (λ (b : Bool). b || (is_unit_counters (record_name n) || is_unit_data (record_name n))) (record_unit n)
@@ -228,7 +213,7 @@ module _ (entry_first : Bool) (m : Module) (accepted : IsAccepted m) (plain : ki
 
   cells_few : cells m2 ≤ 1048576
   cells_few =
-      let a : cells m2 ≡ sum_by (cells_of Counted) m2.globals = cells_are m2 ∙ ap (λ (kind : Kind). sum_by (cells_of kind) m2.globals) (kind_is entry_first m accepted plain) in
+      let a : cells m2 ≡ sum_by (cells_of Counted) m2.globals = cells_are m2 ∙ ap (λ (kind : Kind). sum_by (cells_of kind) m2.globals) (kind_is entry_first m accepted plain plain_name) in
       let b = sum_by-append (cells_of Counted) m.globals records in
       let c = sum_same (cells_of Counted) (cells_of Plain) m.globals old_cells in
       let d = sum_zero (cells_of Counted) records new_cells in
@@ -237,7 +222,7 @@ module _ (entry_first : Bool) (m : Module) (accepted : IsAccepted m) (plain : ki
       omega (arith, a, b, c, d, e, h)
 
   old_told : (g : Global1) → Among g m.globals → told_counters g ≡ 0
-  old_told g at = ap (λ (b : Bool). cond {A = ℕ} b (unwrap_or (length_of is_i64 g.mem) 0) 0) (no_unit_counters g.name (plain_name entry_first m accepted plain g.name (global_symbol entry_first m accepted plain g at)).units)
+  old_told g at = ap (λ (b : Bool). cond {A = ℕ} b (unwrap_or (length_of is_i64 g.mem) 0) 0) ((plain_name g.name (global_symbol entry_first m accepted plain plain_name g at)).unit_counters)
 
   record_no_counters : (n : Name) → is_unit_counters (record_name n) ≡ false
   unfolding is_unit_counters
@@ -313,7 +298,7 @@ module _ (entry_first : Bool) (m : Module) (accepted : IsAccepted m) (plain : ki
       whole = arrays_are m ∙ ap (λ (kind : Kind). flat_map (global_arrays kind) m.globals ++ flat_map function_arrays m.functions) plain
 
       made : all_arrays m2 ≡ flat_map (global_arrays Counted) m2.globals ++ flat_map function_arrays m2.functions
-      made = arrays_are m2 ∙ ap (λ (kind : Kind). flat_map (global_arrays kind) m2.globals ++ flat_map function_arrays m2.functions) (kind_is entry_first m accepted plain)
+      made = arrays_are m2 ∙ ap (λ (kind : Kind). flat_map (global_arrays kind) m2.globals ++ flat_map function_arrays m2.functions) (kind_is entry_first m accepted plain plain_name)
 
       by : Among size (flat_map (global_arrays Counted) m2.globals) ⊎ Among size (flat_map function_arrays m2.functions) → Among size (flat_map (global_arrays Plain) m.globals ++ flat_map function_arrays m.functions)
       by (inl k) = among_left (flat_map (global_arrays Plain) m.globals) (flat_map function_arrays m.functions) size (global_stays size k)
@@ -332,7 +317,7 @@ module _ (entry_first : Bool) (m : Module) (accepted : IsAccepted m) (plain : ki
   }
 
   pub limits_kept : passed m2 ≡ []
-  limits_kept = within_passes m2 (subst (λ (kind : Kind). IsWithin kind m2) (sym (kind_is entry_first m accepted plain)) counted_within)
+  limits_kept = (limits m2).1 (subst (λ (kind : Kind). IsWithin kind m2) (sym (kind_is entry_first m accepted plain plain_name)) counted_within)
 
   pub is_counted : kind_of m2.functions ≡ Counted
-  is_counted = kind_is entry_first m accepted plain
+  is_counted = kind_is entry_first m accepted plain plain_name

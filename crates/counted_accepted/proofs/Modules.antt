@@ -6,11 +6,12 @@ use Rattle.std.proofs.lemmas.Bool.{and_from, and_parts, eq-eqb, ne_eqb, or_cases
 use Rattle.std.proofs.lemmas.List.{map-append}
 use Rattle.std.proofs.lemmas.List.Elements.{filter_map-append}
 use Rattle.std.proofs.lemmas.Option.{none-some, same_Some}
-use Rattle.counted_accepted.proofs.Symbols.{IsPlainName, Name, free_function, free_variable, intrinsic_names, no_profile_name, no_unit_counters, no_unit_data, no_unit_name, no_unit_part, not_both, not_true, plain_function, plain_variable, record_free, record_named, record_text, record_unit, symbols_once}
+use Rattle.counted_accepted.proofs.Symbols.{Name, free_function, free_variable, intrinsic_names, no_unit_part, not_both, not_true, record_free, record_named, record_text, record_unit, symbols_once}
 use Rattle.count_plan.specs.Calls.{increment_name, step_name, value_name}
 use Rattle.count_plan.specs.Counted.{counted_function, function_plan, no_function_plan}
 use Rattle.count_plan.specs.declared.plan.FunctionPlan.{FunctionPlan}
 use Rattle.counted_rules.specs.Kept.{DeclaredStayFormed, FunctionsStayFormed, TakesOver}
+use Rattle.counted_rules.specs.PlainNames.{IsPlainName}
 use Rattle.counted_rules.specs.PlanFits.{PlanFits, increment_signature, step_signature, value_signature}
 use Rattle.gen_plan.specs.Gen.{counted, declaration, declarations, gen_function, has_select, record_global, record_name}
 use Rattle.ir_rules.specs.Accepted.{IsAccepted}
@@ -143,7 +144,7 @@ each_planned plans make n (f ∷ fs) h =
     let rest = each_planned plans make (n + 1) fs (λ i g at. subst (λ (k : ℕ). function_plan plans k ≡ make g) (let e : n + suc i ≡ n + 1 + i = omega arith in e) (h (suc i) g at)) in
     λ i. counted_function (first i) f ∷ rest i
 
-module _ (entry_first : Bool) (m : Module) (accepted : IsAccepted m) (plain : kind_of m.functions ≡ Plain) where
+module _ (entry_first : Bool) (m : Module) (accepted : IsAccepted m) (plain : kind_of m.functions ≡ Plain) (plain_name : (n : Name) → Among n (symbols m) → IsPlainName n) where
   abbrev m2 : Module
   m2 = counted entry_first m
 
@@ -175,17 +176,6 @@ module _ (entry_first : Bool) (m : Module) (accepted : IsAccepted m) (plain : ki
   names_of_variables = map-append (λ (g : Global1). g.name) m.globals (map (λ (f : Function). record_global f.name) (filter defined m.functions)) ∙ ap (λ (ns : List Name). variables m ++ ns) names_of_records
 
   -- ---- names of the plain module
-
-  pub plain_name : (n : Name) → Among n (symbols m) → IsPlainName n
-  plain_name n at = by (among_either (variables m) (function_names m) n at)
-    where
-      by : Among n (variables m) ⊎ Among n (function_names m) → IsPlainName n
-      by (inl h) =
-          let g = map_among (λ (g : Global1). g.name) m.globals n h in
-          subst (λ (k : Name). IsPlainName k) (sym g.2) (plain_variable g.0.name (ap (λ (kind : Kind). is_reserved_variable kind g.0.name) (sym plain) ∙ (accepted.formed.global g.0 g.1).free))
-      by (inr h) =
-          let f = map_among (λ (f : Function). f.name) m.functions n h in
-          subst (λ (k : Name). IsPlainName k) (sym f.2) (plain_function f.0.name (ap (λ (kind : Kind). is_reserved_function kind f.0.name) (sym plain) ∙ (accepted.formed.function f.0 f.1).free))
 
   function_symbol : (f : Function) → Among f m.functions → Among f.name (symbols m)
   function_symbol f at = among_right (variables m) (function_names m) f.name (among_map (λ (g : Function). g.name) m.functions f at)
@@ -226,7 +216,7 @@ module _ (entry_first : Bool) (m : Module) (accepted : IsAccepted m) (plain : ki
       other : (g : Function) → Among g m.functions → declares (codes "__llvm_profile_instrument_target") (counts g) ≡ false
       other g h = not_true (declares (codes "__llvm_profile_instrument_target") (counts g)) (λ e. not_both (is_profile_name g.name)
           (ap is_profile_name ((bytes_decides g.name (codes "__llvm_profile_instrument_target")).0 (and_parts (is_declared (counts g)) (same g.name (codes "__llvm_profile_instrument_target")) e).1) ∙ note_is_profile)
-          (no_profile_name g.name (plain_name g.name (function_symbol g h))))
+          (plain_name g.name (function_symbol g h)).profile)
 
       by : Among f (map counts m.functions) ⊎ Among f (declarations m.functions) → declares (codes "__llvm_profile_instrument_target") f ≡ false
       by (inl h) = (let g = map_among counts m.functions f h in ap (declares (codes "__llvm_profile_instrument_target")) g.2 ∙ other g.0 g.1)
@@ -260,7 +250,7 @@ module _ (entry_first : Bool) (m : Module) (accepted : IsAccepted m) (plain : ki
   not_of_profile : (n : Name) → Among n (symbols m) → is_of_profile m2 n ≡ false
   not_of_profile n at =
       let p = plain_name n at in
-      or_from (is_profile_variable (kind_of m2.functions) n && is_among n (variables m2)) (is_profile_name n && is_among n (function_names m2)) (ap (λ (b : Bool). b && is_among n (variables m2)) (part_off n p)) (ap (λ (b : Bool). b && is_among n (function_names m2)) (no_profile_name n p))
+      or_from (is_profile_variable (kind_of m2.functions) n && is_among n (variables m2)) (is_profile_name n && is_among n (function_names m2)) (ap (λ (b : Bool). b && is_among n (variables m2)) (part_off n p)) (ap (λ (b : Bool). b && is_among n (function_names m2)) p.profile)
     where
       part_off : (k : Name) → IsPlainName k → is_profile_variable (kind_of m2.functions) k ≡ false
       part_off k p = ap (λ (kind : Kind). is_profile_variable kind k) kind_is ∙ no_unit_part k p
@@ -270,7 +260,7 @@ module _ (entry_first : Bool) (m : Module) (accepted : IsAccepted m) (plain : ki
     has_symbols = symbol_kept;
     has_signatures = signature_kept;
     of_program = not_of_profile;
-    no_profile = λ n at. no_profile_name n (plain_name n at);
+    no_profile = λ n at. (plain_name n at).profile;
     not_lowered = ap is_lowered_kind plain;
     free = λ n at. ap (λ (kind : Kind). is_reserved_function kind n) kind_is ∙ free_function n (plain_name n (among_right (variables m) (function_names m) n at));
   }
@@ -304,7 +294,7 @@ module _ (entry_first : Bool) (m : Module) (accepted : IsAccepted m) (plain : ki
 
   none_of_unit : (g : Global1) → IsPlainName g.name → is_unit_global m2 g ≡ true
   unfolding is_unit_global
-  none_of_unit g p = (let a = no_unit_name g.name p.units in let b = no_unit_counters g.name p.units in let c = no_unit_data g.name p.units in rw a (rw b (rw c refl)))
+  none_of_unit g p = (let a = p.unit_name in let b = p.unit_counters in let c = p.unit_data in rw a (rw b (rw c refl)))
 
   old_global : (g : Global1) → Among g m.globals → GlobalFormed m2 g
   old_global g at =
@@ -384,7 +374,7 @@ module _ (entry_first : Bool) (m : Module) (accepted : IsAccepted m) (plain : ki
   texts_once : (t : Name) → times t (unit_texts m2.globals) ≤ 1
   texts_once t =
       let a : unit_texts m2.globals ≡ unit_texts m.globals ++ unit_texts (map (λ (f : Function). record_global f.name) (filter defined m.functions)) = filter_map-append unit_text m.globals (map (λ (f : Function). record_global f.name) (filter defined m.functions)) in
-      let b : unit_texts m.globals ≡ [] = no_text m.globals (λ g at. no_unit_name g.name (plain_name g.name (global_symbol g at)).units) in
+      let b : unit_texts m.globals ≡ [] = no_text m.globals (λ g at. (plain_name g.name (global_symbol g at)).unit_name) in
       let is : unit_texts m2.globals ≡ map (λ (f : Function). f.name) (filter defined m.functions) = a ∙ (λ i. b i ++ new_texts (filter defined m.functions) i) in
       let e : times t (unit_texts m2.globals) ≡ times t (map (λ (f : Function). f.name) (filter defined m.functions)) = ap (λ (ns : List Name). times t ns) is in
       let few = few_records t in

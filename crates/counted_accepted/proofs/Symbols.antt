@@ -1,19 +1,18 @@
 -- The symbols of the module that counts: those of the plain module, the records' names, and the intrinsics.
-use Rattle.std.proofs.Common.{◌≡◌, ℕ, zero, suc, ◌+◌, ◌==◌, ◌≤◌, inl, inr, Bool, true, false, ◌&&◌, ◌||◌, not, cond, nat_le, List, [], ◌∷◌, ◌++◌, length, map, take, refl, sym, ap, ◌∙◌, arith, codes}
+use Rattle.std.proofs.Common.{◌≡◌, ℕ, zero, suc, ◌+◌, ◌==◌, ◌≤◌, inl, inr, Bool, true, false, ◌&&◌, ◌||◌, not, cond, nat_le, List, [], ◌∷◌, ◌++◌, length, map, refl, sym, ap, ◌∙◌, arith, codes}
 use Rattle.std.specs.Char.{is_ascii_digit, is_ascii_graphic}
 use Rattle.std.specs.Cmp.Lexicographic.{bytes_decides}
 use Rattle.std.specs.List.{list_all}
 use Rattle.std.proofs.lemmas.Bool.{and_from, and_parts, leb-true, le-leb, ne_eqb, or_from, or_parts}
-use Rattle.std.proofs.lemmas.List.{take-take}
 use Rattle.counted_accepted.proofs.GenNames.{standing}
+use Rattle.counted_rules.specs.PlainNames.{IsPlainName}
 use Rattle.count_plan.specs.Calls.{increment_name, step_name, value_name}
 use Rattle.gen_plan.specs.Gen.{record_name}
 use Rattle.ir_rules.specs.Initialisers.{ends_blank, is_record_byte, is_record_name}
 use Rattle.ir_rules.specs.Kinds.{is_unit_counters, is_unit_data, is_unit_name, is_unit_part}
 use Rattle.ir_rules.specs.Lists.{Among, times}
-use Rattle.ir_rules.specs.Reserved.{is_of_intrinsics, is_of_runtime, is_of_units, is_reserved_function, is_reserved_variable, is_version}
-use Rattle.ir_rules.specs.declared.place.Kind.TheVariants.{Counted, Plain}
-use Rattle.ir_tree.specs.Functions.{begins_with, is_profile_name}
+use Rattle.ir_rules.specs.Reserved.{is_of_intrinsics, is_of_runtime, is_reserved_function, is_reserved_variable, is_version}
+use Rattle.ir_rules.specs.declared.place.Kind.TheVariants.{Counted}
 use Rattle.ir_tree.specs.Names.{same}
 use Rattle.ir_tree.specs.Spelling.{is_empty, is_global_name, is_local_name, is_quotable}
 use Rattle.spec_items.proofs.Items.{count_cons}
@@ -36,59 +35,16 @@ not_true false h = refl
 
 -- ---- names of a plain module
 
-pub record IsPlainName (n : Name) : Type 0 where
-  pub units : is_of_units n ≡ false
-  pub runtime : is_of_runtime n ≡ false
-  pub intrinsics : is_of_intrinsics n ≡ false
-
-pub plain_function : (n : Name) → is_reserved_function Plain n ≡ false → IsPlainName n
-plain_function n h =
-    let a = or_parts (is_of_units n) (is_of_runtime n || is_of_intrinsics n) h in
-    let b = or_parts (is_of_runtime n) (is_of_intrinsics n) a.1 in
-    record { units = a.0; runtime = b.0; intrinsics = b.1 }
-
-pub plain_variable : (n : Name) → is_reserved_variable Plain n ≡ false → IsPlainName n
-plain_variable n h =
-    let a = or_parts (is_of_units n) (is_of_runtime n || is_of_intrinsics n) h in
-    let b = or_parts (is_of_runtime n) (is_of_intrinsics n) a.1 in
-    record { units = a.0; runtime = b.0; intrinsics = b.1 }
-
--- what begins with a longer front begins with a shorter one
-begins_shorter : (front more n : Name) → take (length front) more ≡ front → length front ≤ length more → begins_with more n ≡ true → begins_with front n ≡ true
-begins_shorter front more n is short h =
-    let whole : more ≡ take (length more) n = same_is more (take (length more) n) h in
-    let first : front ≡ take (length front) n = sym is ∙ ap (λ (x : Name). take (length front) x) whole ∙ take-take (length front) (length more) n short in
-    (bytes_decides front (take (length front) n)).1 first
-
-no_longer : (front more n : Name) → take (length front) more ≡ front → length front ≤ length more → begins_with front n ≡ false → begins_with more n ≡ false
-no_longer front more n is short h = not_true (begins_with more n) (λ e. not_both (begins_with front n) (begins_shorter front more n is short e) h)
-
-pub no_unit_name : (n : Name) → is_of_units n ≡ false → is_unit_name n ≡ false
-unfolding is_of_units is_unit_name
-no_unit_name n h = no_longer (codes "__prof") (codes "__profn_") n refl (omega arith) h
-
-pub no_unit_counters : (n : Name) → is_of_units n ≡ false → is_unit_counters n ≡ false
-unfolding is_of_units is_unit_counters
-no_unit_counters n h = no_longer (codes "__prof") (codes "__profc_") n refl (omega arith) h
-
-pub no_unit_data : (n : Name) → is_of_units n ≡ false → is_unit_data n ≡ false
-unfolding is_of_units is_unit_data
-no_unit_data n h = no_longer (codes "__prof") (codes "__profd_") n refl (omega arith) h
-
-pub no_profile_name : (n : Name) → IsPlainName n → is_profile_name n ≡ false
-unfolding is_of_runtime is_of_intrinsics is_profile_name
-no_profile_name n h = or_from (begins_with (codes "llvm.instrprof.") n) (begins_with (codes "__llvm_profile_") n) h.intrinsics (no_longer (codes "__llvm_profile") (codes "__llvm_profile_") n refl (omega arith) h.runtime)
-
 pub no_unit_part : (n : Name) → IsPlainName n → is_unit_part n ≡ false
-no_unit_part n h = or_from (is_unit_name n) (is_unit_counters n || is_unit_data n) (no_unit_name n h.units) (or_from (is_unit_counters n) (is_unit_data n) (no_unit_counters n h.units) (no_unit_data n h.units))
+no_unit_part n h = or_from (is_unit_name n) (is_unit_counters n || is_unit_data n) h.unit_name (or_from (is_unit_counters n) (is_unit_data n) h.unit_counters h.unit_data)
 
 pub free_function : (n : Name) → IsPlainName n → is_reserved_function Counted n ≡ false
-free_function n h = or_from (is_unit_counters n) (is_unit_data n || is_of_runtime n) (no_unit_counters n h.units) (or_from (is_unit_data n) (is_of_runtime n) (no_unit_data n h.units) h.runtime)
+free_function n h = or_from (is_unit_counters n) (is_unit_data n || is_of_runtime n) h.unit_counters (or_from (is_unit_data n) (is_of_runtime n) h.unit_data h.runtime)
 
 pub free_variable : (n : Name) → IsPlainName n → is_reserved_variable Counted n ≡ false
 free_variable n h =
-    or_from (is_unit_counters n) (is_unit_data n || ((is_of_runtime n && not (is_version n)) || is_of_intrinsics n)) (no_unit_counters n h.units) (
-    or_from (is_unit_data n) ((is_of_runtime n && not (is_version n)) || is_of_intrinsics n) (no_unit_data n h.units) (
+    or_from (is_unit_counters n) (is_unit_data n || ((is_of_runtime n && not (is_version n)) || is_of_intrinsics n)) h.unit_counters (
+    or_from (is_unit_data n) ((is_of_runtime n && not (is_version n)) || is_of_intrinsics n) h.unit_data (
     or_from (is_of_runtime n && not (is_version n)) (is_of_intrinsics n) (ap (λ (b : Bool). b && not (is_version n)) h.runtime) h.intrinsics))
 
 -- ---- names of records
@@ -279,7 +235,7 @@ symbols_once old records steps plain once few n = by (times n old) refl (times n
     by (suc a) e (suc b) d c q =
         let p = plain n (standing n old (omega (arith, e))) in
         let r = unit_of_record (standing n (map record_name records) (omega (arith, d))) in
-        absurd (not_both (is_unit_name n) r (no_unit_name n p.units))
+        absurd (not_both (is_unit_name n) r p.unit_name)
     by (suc a) e zero d (suc c) q =
         let p = plain n (standing n old (omega (arith, e))) in
         let s = (intrinsic_kinds steps n (standing n (intrinsic_names steps) (omega (arith, q)))).0 in

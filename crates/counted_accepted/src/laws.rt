@@ -3,7 +3,9 @@ ghost use Rattle.counted_accepted.specs.Gen.{IsCountedAccepted, IsCountedKind, I
 
 use accepted_counts::plain_can_be_counted;
 use cfg_edges::graphs_stand;
-use counted_rules::{functions_grow_little, functions_stay_formed};
+use counted_rules::{
+    functions_grow_little, functions_stay_formed, limits_are_kept, names_are_plain,
+};
 use ir_rules::look_ups_tell;
 
 /// In an accepted plain module the plan of each defined function fits it: new names are free and apart, and the limits bound
@@ -12,6 +14,8 @@ pub fn gen_plans_fit()
     ensures { PlansFit }
 {
     plain_can_be_counted();
+    names_are_plain();
+    limits_are_kept();
     graphs_stand();
     look_ups_tell();
 }
@@ -21,6 +25,7 @@ pub fn counted_is_formed()
     ensures { IsCountedWell }
 {
     gen_plans_fit();
+    names_are_plain();
     functions_stay_formed();
 }
 
@@ -31,5 +36,7 @@ pub fn gen_is_accepted()
     ensures kind { IsCountedKind }
 {
     counted_is_formed();
+    names_are_plain();
+    limits_are_kept();
     functions_grow_little();
 }

@@ -6,7 +6,7 @@ use Rattle.count_plan.specs.Counted.{counted_blocks, counted_function}
 use Rattle.count_plan.specs.Ways.{renamed, renamed_phi, renamings}
 use Rattle.count_plan.specs.declared.plan.FunctionPlan.{FunctionPlan}
 use Rattle.counted_rules.proofs.Instrs.{item_stays}
-use Rattle.counted_rules.proofs.Listed.{Name, among_either, among_left, among_right, among_at, same_is}
+use Rattle.counted_rules.proofs.Listed.{Name, among_at, among_either, among_flat, among_left, among_right, flat_among, same_is}
 use Rattle.counted_rules.proofs.NamesKept.{same_result}
 use Rattle.counted_rules.proofs.Ways.{made_of, old_among, plan_at}
 use Rattle.counted_rules.specs.Kept.{TakesOver}
@@ -79,76 +79,17 @@ other_place m n (a ∷ b ∷ c ∷ d ∷ e ∷ f ∷ more) off = refl
 other_note : (m : Module) (n : Name) (args : List Use) → is_profile_name n ≡ false → calls_note_well m (Global n) args ≡ true
 other_note m n args off = (let e = off_by is_target_note is_profile_name n (note_profile n) off in rw e refl)
 
--- ---- what a function has, it keeps
+-- ---- what is formed in a module is formed in one that takes it over, in a function with the same values and more
 
-module _ (m m2 : Module) (takes : TakesOver m m2) (unit : FunctionPlan) (f : Function) where
-  abbrev pub made : Function
-  made = counted_function unit f
+module _ (m m2 : Module) (takes : TakesOver m m2) (f f2 : Function) (more : (v : Name × Ret) → Among v (values f) → Among v (values f2)) where
+  fits_in : (allowed : Bool) (t : Ty) (o : Operand) → Fits m f allowed t o → Fits m2 f2 allowed t o
+  fits_in allowed t (Int value) h = h
+  fits_in allowed t Null h = h
+  fits_in allowed t (Local name) h = more (name, Value t) h
+  fits_in allowed t (Global name) h = (h.0, takes.has_symbols name h.1, or_right allowed (not (is_of_profile m2 name)) (ap not (takes.of_program name h.1)))
 
-  result_listed : (xs : List Instr) (v : Name × Ret) → Among v (filter_map result_of xs) → (x : Instr) × Among x xs × (result_of x ≡ Some v)
-  result_listed [] v at = absurd at
-  result_listed (x ∷ xs) v at = by (result_of x) refl at (λ h. result_listed xs v h)
-    where
-      later : (y : Instr) × Among y xs × (result_of y ≡ Some v) → (y : Instr) × Among y (x ∷ xs) × (result_of y ≡ Some v)
-      later (y, at, e) = (y, inr at, e)
-
-      by : (o : Option (Name × Ret)) → result_of x ≡ o → Among v (cons_option o (filter_map result_of xs)) → (Among v (filter_map result_of xs) → (y : Instr) × Among y xs × (result_of y ≡ Some v)) → (y : Instr) × Among y (x ∷ xs) × (result_of y ≡ Some v)
-      by None e h rest = later (rest h)
-      by (Some w) e (inl q) rest = (x, inl refl, e ∙ ap Some (sym q))
-      by (Some w) e (inr h) rest = later (rest h)
-
-  pub listed_result : (xs : List Instr) (x : Instr) (v : Name × Ret) → Among x xs → result_of x ≡ Some v → Among v (filter_map result_of xs)
-  listed_result [] x v at e = absurd at
-  listed_result (y ∷ ys) x v (inl q) e = subst (λ (o : Option (Name × Ret)). Among v (cons_option o (filter_map result_of ys))) (sym (ap result_of (sym q) ∙ e)) (inl refl)
-  listed_result (y ∷ ys) x v (inr at) e = by (result_of y) (listed_result ys x v at e)
-    where
-      by : (o : Option (Name × Ret)) → Among v (filter_map result_of ys) → Among v (cons_option o (filter_map result_of ys))
-      by None h = h
-      by (Some w) h = inr h
-
-  flat_at : (bs : List Block) (v : Name × Ret) → Among v (flat_map block_values bs) → (b : Block) × Among b bs × Among v (block_values b)
-  flat_at [] v at = absurd at
-  flat_at (b ∷ bs) v at = by (among_either (block_values b) (flat_map block_values bs) v at) (λ h. flat_at bs v h)
-    where
-      by : Among v (block_values b) ⊎ Among v (flat_map block_values bs) → (Among v (flat_map block_values bs) → (c : Block) × Among c bs × Among v (block_values c)) → (c : Block) × Among c (b ∷ bs) × Among v (block_values c)
-      by (inl h) rest = (b, inl refl, h)
-      by (inr h) rest = (let r = rest h in (r.0, inr r.1, r.2))
-
-  at_flat : (bs : List Block) (b : Block) (v : Name × Ret) → Among b bs → Among v (block_values b) → Among v (flat_map block_values bs)
-  at_flat [] b v at h = absurd at
-  at_flat (c ∷ cs) b v (inl e) h = among_left (block_values c) (flat_map block_values cs) v (subst (λ (d : Block). Among v (block_values d)) e h)
-  at_flat (c ∷ cs) b v (inr at) h = among_right (block_values c) (flat_map block_values cs) v (at_flat cs b v at h)
-
-  -- a result in a block that counts is one of the function
-  pub block_value : (j : ℕ) (b : Block) (x : Instr) (v : Name × Ret) → slice_get f.blocks j ≡ Some b → Among x (made_of unit f.blocks j b).instrs → result_of x ≡ Some v → Among v (values made)
-  block_value j b x v at h e =
-      among_right (map (λ p. (p.1, Value p.0)) f.params) (flat_map block_values (counted_blocks unit f.blocks)) v (at_flat (counted_blocks unit f.blocks) (made_of unit f.blocks j b) v (old_among unit f.blocks j b at) (listed_result (made_of unit f.blocks j b).instrs x v h e))
-
-  value_kept : (v : Name × Ret) → Among v (values f) → Among v (values made)
-  value_kept v at = by (among_either (map (λ p. (p.1, Value p.0)) f.params) (flat_map block_values f.blocks) v at)
-    where
-      stays : (x y : Instr) (rs : List (Name × Name)) → (y ≡ x) ⊎ (y ≡ renamed_phi rs x) → result_of x ≡ Some v → result_of y ≡ Some v
-      stays x y rs (inl e) q = ap result_of e ∙ q
-      stays x y rs (inr e) q = ap result_of e ∙ same_result rs x ∙ q
-
-      by : Among v (map (λ p. (p.1, Value p.0)) f.params) ⊎ Among v (flat_map block_values f.blocks) → Among v (values made)
-      by (inl h) = among_left (map (λ p. (p.1, Value p.0)) f.params) (flat_map block_values (counted_blocks unit f.blocks)) v h
-      by (inr h) =
-          let r = flat_at f.blocks v h in
-          let x = result_listed r.0.instrs v r.2 in
-          let spot = among_at f.blocks r.0 r.1 in
-          let rs = renamings unit.blocks f.blocks r.0.label in
-          let y = item_stays unit (plan_at unit f.blocks spot.0) rs r.0.instrs x.0 x.1 in
-          block_value spot.0 r.0 y.0 v spot.1 y.1 (stays x.0 y.0 rs y.2 x.2)
-
-  pub fits_kept : (allowed : Bool) (t : Ty) (o : Operand) → Fits m f allowed t o → Fits m2 made allowed t o
-  fits_kept allowed t (Int value) h = h
-  fits_kept allowed t Null h = h
-  fits_kept allowed t (Local name) h = value_kept (name, Value t) h
-  fits_kept allowed t (Global name) h = (h.0, takes.has_symbols name h.1, or_right allowed (not (is_of_profile m2 name)) (ap not (takes.of_program name h.1)))
-
-  pub all_kept : (allowed : Bool) (us : List Use) → AllFit m f allowed us → AllFit m2 made allowed us
-  all_kept allowed us h u at = fits_kept allowed u.0 u.1 (h u at)
+  pub all_in : (allowed : Bool) (us : List Use) → AllFit m f allowed us → AllFit m2 f2 allowed us
+  all_in allowed us h u at = fits_in allowed u.0 u.1 (h u at)
 
   -- ---- an instruction of the function
 
@@ -216,16 +157,71 @@ module _ (m m2 : Module) (takes : TakesOver m m2) (unit : FunctionPlan) (f : Fun
   counted_kept (Call into ret callee args prof) h e = note_kept (names_profile callee) callee args (h (Ptr, callee) (inl refl))
   counted_kept (Count symbol size index step) h e = absurd (not_both _ (and_parts _ _ e).0 takes.not_lowered)
 
-  pub instr_kept : (x : Instr) → InstrFormed m f x → InstrFormed m2 made x
-  instr_kept x h = record {
+  pub instr_in : (x : Instr) → InstrFormed m f x → InstrFormed m2 f2 x
+  instr_in x h = record {
     named = h.named;
-    fit = all_kept (calls_profile x) (operands x) h.fit;
+    fit = all_in (calls_profile x) (operands x) h.fit;
     typed = h.typed;
     calls = calls_kept x h.calls;
     weighed = h.weighed;
     counts = counts_kept x h.fit;
     counted = counted_kept x h.fit h.counted;
   }
+
+-- ---- what a function that counts has of the one that it was
+
+module _ (m m2 : Module) (takes : TakesOver m m2) (unit : FunctionPlan) (f : Function) where
+  abbrev pub made : Function
+  made = counted_function unit f
+
+  result_listed : (xs : List Instr) (v : Name × Ret) → Among v (filter_map result_of xs) → (x : Instr) × Among x xs × (result_of x ≡ Some v)
+  result_listed [] v at = absurd at
+  result_listed (x ∷ xs) v at = by (result_of x) refl at (λ h. result_listed xs v h)
+    where
+      later : (y : Instr) × Among y xs × (result_of y ≡ Some v) → (y : Instr) × Among y (x ∷ xs) × (result_of y ≡ Some v)
+      later (y, at, e) = (y, inr at, e)
+
+      by : (o : Option (Name × Ret)) → result_of x ≡ o → Among v (cons_option o (filter_map result_of xs)) → (Among v (filter_map result_of xs) → (y : Instr) × Among y xs × (result_of y ≡ Some v)) → (y : Instr) × Among y (x ∷ xs) × (result_of y ≡ Some v)
+      by None e h rest = later (rest h)
+      by (Some w) e (inl q) rest = (x, inl refl, e ∙ ap Some (sym q))
+      by (Some w) e (inr h) rest = later (rest h)
+
+  pub listed_result : (xs : List Instr) (x : Instr) (v : Name × Ret) → Among x xs → result_of x ≡ Some v → Among v (filter_map result_of xs)
+  listed_result [] x v at e = absurd at
+  listed_result (y ∷ ys) x v (inl q) e = subst (λ (o : Option (Name × Ret)). Among v (cons_option o (filter_map result_of ys))) (sym (ap result_of (sym q) ∙ e)) (inl refl)
+  listed_result (y ∷ ys) x v (inr at) e = by (result_of y) (listed_result ys x v at e)
+    where
+      by : (o : Option (Name × Ret)) → Among v (filter_map result_of ys) → Among v (cons_option o (filter_map result_of ys))
+      by None h = h
+      by (Some w) h = inr h
+
+  -- a result in a block that counts is one of the function
+  pub block_value : (j : ℕ) (b : Block) (x : Instr) (v : Name × Ret) → slice_get f.blocks j ≡ Some b → Among x (made_of unit f.blocks j b).instrs → result_of x ≡ Some v → Among v (values made)
+  block_value j b x v at h e =
+      among_right (map (λ p. (p.1, Value p.0)) f.params) (flat_map block_values (counted_blocks unit f.blocks)) v (among_flat block_values (counted_blocks unit f.blocks) (made_of unit f.blocks j b) v (old_among unit f.blocks j b at) (listed_result (made_of unit f.blocks j b).instrs x v h e))
+
+  value_kept : (v : Name × Ret) → Among v (values f) → Among v (values made)
+  value_kept v at = by (among_either (map (λ p. (p.1, Value p.0)) f.params) (flat_map block_values f.blocks) v at)
+    where
+      stays : (x y : Instr) (rs : List (Name × Name)) → (y ≡ x) ⊎ (y ≡ renamed_phi rs x) → result_of x ≡ Some v → result_of y ≡ Some v
+      stays x y rs (inl e) q = ap result_of e ∙ q
+      stays x y rs (inr e) q = ap result_of e ∙ same_result rs x ∙ q
+
+      by : Among v (map (λ p. (p.1, Value p.0)) f.params) ⊎ Among v (flat_map block_values f.blocks) → Among v (values made)
+      by (inl h) = among_left (map (λ p. (p.1, Value p.0)) f.params) (flat_map block_values (counted_blocks unit f.blocks)) v h
+      by (inr h) =
+          let r = flat_among block_values f.blocks v h in
+          let x = result_listed r.0.instrs v r.2 in
+          let spot = among_at f.blocks r.0 r.1 in
+          let rs = renamings unit.blocks f.blocks r.0.label in
+          let y = item_stays unit (plan_at unit f.blocks spot.0) rs r.0.instrs x.0 x.1 in
+          block_value spot.0 r.0 y.0 v spot.1 y.1 (stays x.0 y.0 rs y.2 x.2)
+
+  pub all_kept : (allowed : Bool) (us : List Use) → AllFit m f allowed us → AllFit m2 made allowed us
+  all_kept allowed us h = all_in m m2 takes f made value_kept allowed us h
+
+  pub instr_kept : (x : Instr) → InstrFormed m f x → InstrFormed m2 made x
+  instr_kept x h = instr_in m m2 takes f made value_kept x h
 
 -- ---- a phi with other entries
 

@@ -43,7 +43,7 @@ use Rattle.ir_tree.specs.declared.types.Operand.{Operand}
 
 -- ---- lists of blocks
 
-same_empty : (unit : FunctionPlan) (bs : List Block) → (length (counted_blocks unit bs) == 0) ≡ (length bs == 0)
+pub same_empty : (unit : FunctionPlan) (bs : List Block) → (length (counted_blocks unit bs) == 0) ≡ (length bs == 0)
 same_empty unit [] = refl
 same_empty unit (b ∷ bs) = ne_eqb (length (counted_blocks unit (b ∷ bs))) 0 (omega arith) ∙ sym (ne_eqb (length (b ∷ bs)) 0 (omega arith))
 

@@ -1,8 +1,8 @@
 -- How much a function grows that counts: ways out, results, sites and array types.
-use Rattle.std.proofs.Common.{◌≡◌, ℕ, suc, ◌+◌, ◌*◌, ◌≤◌, ◌⊎◌, inl, inr, Bool, true, false, cond, List, [], ◌∷◌, ◌++◌, length, map, count_by, sum_by, Option, Some, None, is_some, slice_get, refl, ap, subst, ◌∙◌, arith}
+use Rattle.std.proofs.Common.{◌≡◌, ℕ, suc, ◌+◌, ◌*◌, ◌≤◌, Bool, true, false, cond, List, [], ◌∷◌, ◌++◌, length, map, count_by, sum_by, Option, Some, None, is_some, slice_get, refl, ap, subst, ◌∙◌, arith}
 use Rattle.std.specs.Prelude.{max}
 use Rattle.std.specs.List.{flat_map}
-use Rattle.std.proofs.lemmas.List.{take-append-drop}
+use Rattle.std.proofs.lemmas.List.{length-append, length-map, take-append-drop}
 use Rattle.std.proofs.lemmas.List.Sums.{sum_by-append, sum_by-cons}
 use Rattle.count_plan.specs.Calls.{condition_of, condition_watched, increment, increments, target_of, target_watched, watched}
 use Rattle.count_plan.specs.Counted.{counted_blocks, counted_from, counted_function, counted_instrs, counted_pieces, new_blocks, put_on, watch_at}
@@ -12,14 +12,18 @@ use Rattle.count_plan.specs.declared.plan.FunctionPlan.{FunctionPlan}
 use Rattle.count_plan.specs.declared.plan.NewBlock.{NewBlock}
 use Rattle.count_plan.specs.declared.plan.Watch.{Watch}
 use Rattle.count_plan.specs.declared.plan.Watch.TheVariants.{Nothing, Condition, Target}
+use Rattle.counted_rules.proofs.FunctionKept.{same_empty}
 use Rattle.counted_rules.proofs.Instrs.{Added, Cast, Front, Head, Item, Noted, Own, Put, Puts, Tail, Taken, behind_among, front_among, increment_among, item_from}
-use Rattle.counted_rules.proofs.Listed.{Name, among_either, among_left, among_right, at_among}
+use Rattle.counted_rules.proofs.Listed.{Name, among_flat, at_among, flat_among}
 use Rattle.counted_rules.proofs.NamesKept.{same_result}
 use Rattle.counted_rules.proofs.Ways.{Made, New, Old, block_from, led_all, made_of, made_on, plan_at, successors_led}
 use Rattle.counted_rules.specs.Grown.{GrowsLittle}
+use Rattle.counted_rules.specs.PlanFits.{put_names, watches_in}
 use Rattle.ir_rules.specs.Limits.{function_arrays, has_result, instr_arrays, total_of}
 use Rattle.ir_rules.specs.Lists.{Among}
+use Rattle.ir_tree.specs.Blocks.{labels}
 use Rattle.ir_tree.specs.Graphs.{count_in, is_local, is_select, is_site}
+use Rattle.ir_tree.specs.Operands.{result_names}
 use Rattle.ir_tree.specs.Phis.{behind_phis, leading_phis, phi_count}
 use Rattle.ir_tree.specs.Successors.{successors, ways_out}
 use Rattle.ir_tree.specs.declared.types.Block.{Block}
@@ -33,7 +37,7 @@ use Rattle.spec_lists.specs.Each.{each}
 
 -- ---- instructions that pass a test
 
-module _ (test : Instr → Bool) (more : Instr → ℕ) (unit : FunctionPlan) (same_test : (rs : List (Name × Name)) (x : Instr) → test (renamed_phi rs x) ≡ test x) (no_increment : (c : ℕ) → test (increment unit c) ≡ false) (few : (w : Watch) (x : Instr) → count_by test (watched unit w x) ≤ more x) where
+module _ (test : Instr → Bool) (more : Instr → ℕ) (unit : FunctionPlan) (same_test : (rs : List (Name × Name)) (x : Instr) → test (renamed_phi rs x) ≡ test x) (no_increment : (c : ℕ) → test (increment unit c) ≡ false) (few : (j i : ℕ) (x : Instr) → count_by test (watched unit (watch_at (block_plan unit.blocks j) i) x) ≤ more x) where
   none_there : (o : Option ℕ) → count_by test (increments unit o) ≡ 0
   none_there None = refl
   none_there (Some c) =
@@ -42,15 +46,16 @@ module _ (test : Instr → Bool) (more : Instr → ℕ) (unit : FunctionPlan) (s
       let z : count_by test [] ≡ 0 = refl in
       omega (arith, a, b, z)
 
-  from_few : (plan : BlockPlan) (i : ℕ) (xs : List Instr) → count_by test (counted_from unit plan i xs) ≤ count_by test xs + sum_by more xs
-  from_few plan i [] = (let z = none_there plan.tail in omega (arith, z))
-  from_few plan i (x ∷ xs) =
+  from_few : (j i : ℕ) (xs : List Instr) → count_by test (counted_from unit (block_plan unit.blocks j) i xs) ≤ count_by test xs + sum_by more xs
+  from_few j i [] = (let z = none_there (block_plan unit.blocks j).tail in omega (arith, z))
+  from_few j i (x ∷ xs) =
+      let plan : BlockPlan = block_plan unit.blocks j in
       let a = count-append test (watched unit (watch_at plan i) x) (x ∷ counted_from unit plan (i + 1) xs) in
       let b = count_cons test x (counted_from unit plan (i + 1) xs) in
       let c = count_cons test x xs in
       let d = sum_by-cons more x xs in
-      let w = few (watch_at plan i) x in
-      let rest = from_few plan (i + 1) xs in
+      let w = few j i x in
+      let rest = from_few j (i + 1) xs in
       omega (arith, a, b, c, d, w, rest)
 
   renamed_count : (rs : List (Name × Name)) (xs : List Instr) → count_by test (map (renamed_phi rs) xs) ≡ count_by test xs
@@ -62,15 +67,16 @@ module _ (test : Instr → Bool) (more : Instr → ℕ) (unit : FunctionPlan) (s
       let rest = renamed_count rs xs in
       omega (arith, a, b, c, rest)
 
-  instrs_few : (plan : BlockPlan) (rs : List (Name × Name)) (xs : List Instr) → count_by test (counted_instrs unit plan rs xs) ≤ count_by test xs + sum_by more xs
-  instrs_few plan rs xs =
+  instrs_few : (j : ℕ) (rs : List (Name × Name)) (xs : List Instr) → count_by test (counted_instrs unit (block_plan unit.blocks j) rs xs) ≤ count_by test xs + sum_by more xs
+  instrs_few j rs xs =
+      let plan : BlockPlan = block_plan unit.blocks j in
       let front : List Instr = map (renamed_phi rs) (leading_phis xs) in
       let rest : List Instr = counted_from unit plan 0 (behind_phis xs) in
       let a : count_by test (map (renamed_phi rs) (leading_phis xs) ++ (increments unit plan.head ++ counted_from unit plan 0 (behind_phis xs))) ≡ count_by test (map (renamed_phi rs) (leading_phis xs)) + count_by test (increments unit plan.head ++ counted_from unit plan 0 (behind_phis xs)) = count-append test (map (renamed_phi rs) (leading_phis xs)) (increments unit plan.head ++ counted_from unit plan 0 (behind_phis xs)) in
       let b = count-append test (increments unit plan.head) (counted_from unit plan 0 (behind_phis xs)) in
       let z = none_there plan.head in
       let r = renamed_count rs (leading_phis xs) in
-      let f = from_few plan 0 (behind_phis xs) in
+      let f = from_few j 0 (behind_phis xs) in
       let c : count_by test (leading_phis xs ++ behind_phis xs) ≡ count_by test (leading_phis xs) + count_by test (behind_phis xs) = count-append test (leading_phis xs) (behind_phis xs) in
       let d : count_by test (leading_phis xs ++ behind_phis xs) ≡ count_by test xs = ap (λ (ys : List Instr). count_by test ys) (take-append-drop (phi_count xs) xs) in
       let e : sum_by more (leading_phis xs ++ behind_phis xs) ≡ sum_by more (leading_phis xs) + sum_by more (behind_phis xs) = sum_by-append more (leading_phis xs) (behind_phis xs) in
@@ -103,7 +109,7 @@ module _ (test : Instr → Bool) (more : Instr → ℕ) (unit : FunctionPlan) (s
       let a = in_append (counted_pieces unit bs n b) (each (counted_pieces unit bs) (n + 1) xs) in
       let c = sum_by-cons (λ (d : Block). count_by test d.instrs) (made_of unit bs n b) (new_blocks unit plan b) in
       let d = new_none plan 0 (successors b.term) in
-      let e = instrs_few plan (renamings unit.blocks bs b.label) b.instrs in
+      let e = instrs_few n (renamings unit.blocks bs b.label) b.instrs in
       let g = sum_by-cons (λ (d : Block). count_by test d.instrs) b xs in
       let h = sum_by-cons (λ (d : Block). sum_by more d.instrs) b xs in
       let rest = blocks_few bs (n + 1) xs in
@@ -180,6 +186,35 @@ sites_watched unit (Target r s) x = by (target_of x)
     by None = omega arith
     by (Some o) = omega arith
 
+-- ---- selects
+
+same_select : (rs : List (Name × Name)) (x : Instr) → is_select (renamed_phi rs x) ≡ is_select x
+same_select rs (Binary into op flags ty left right) = refl
+same_select rs (Compare into pred ty left right) = refl
+same_select rs (Convert into op flags from value to) = refl
+same_select rs (Freeze into ty value) = refl
+same_select rs (Select into c ty first second prof) = refl
+same_select rs (Phi into ty entries) = refl
+same_select rs (Alloca into mem) = refl
+same_select rs (Load into ty address) = refl
+same_select rs (Store ty value address) = refl
+same_select rs (Gep into inbounds mem address indices) = refl
+same_select rs (Call into ret callee values prof) = refl
+same_select rs (Count symbol size index step) = refl
+
+selects_watched : (unit : FunctionPlan) (w : Watch) (x : Instr) → count_by is_select (watched unit w x) ≤ 0
+selects_watched unit Nothing x = omega arith
+selects_watched unit (Condition r c) x = by (condition_of x)
+  where
+    by : (o : Option Operand) → count_by is_select (condition_watched unit r c o) ≤ 0
+    by None = omega arith
+    by (Some o) = omega arith
+selects_watched unit (Target r s) x = by (target_of x)
+  where
+    by : (o : Option Operand) → count_by is_select (target_watched unit r s o) ≤ 0
+    by None = omega arith
+    by (Some o) = omega arith
+
 -- ---- sums
 
 two_counts : (p q : Instr → Bool) (xs : List Instr) → sum_by (λ x. cond {A = ℕ} (p x) 1 0 + cond {A = ℕ} (q x) 1 0) xs ≡ count_by p xs + count_by q xs
@@ -216,6 +251,9 @@ module _ (unit : FunctionPlan) where
   as_many_led plan p [] = refl
   as_many_led plan p (to ∷ tos) = ap (λ (k : ℕ). suc k) (as_many_led plan (p + 1) tos)
 
+  led_ways : (j : ℕ) (b : Block) → length (successors (led (block_plan unit.blocks j) b.term)) ≡ length (successors b.term)
+  led_ways j b = ap (λ (ns : List Name). length ns) (successors_led (block_plan unit.blocks j) b.term) ∙ as_many_led (block_plan unit.blocks j) 0 (successors b.term)
+
   new_ways : (plan : BlockPlan) (p : ℕ) (tos : List Name) → sum_by ways_out (each (λ q to. put_on unit to (new_at plan q)) p tos) ≤ length tos
   new_ways plan p [] = omega arith
   new_ways plan p (to ∷ tos) =
@@ -238,28 +276,43 @@ module _ (unit : FunctionPlan) where
       let plan : BlockPlan = block_plan unit.blocks n in
       let a = sum_by-append ways_out (counted_pieces unit bs n b) (each (counted_pieces unit bs) (n + 1) xs) in
       let c = sum_by-cons ways_out (made_of unit bs n b) (new_blocks unit plan b) in
-      let l : length (successors (led (block_plan unit.blocks n) b.term)) ≡ length (successors b.term) = ap (λ (ns : List Name). length ns) (successors_led (block_plan unit.blocks n) b.term) ∙ as_many_led (block_plan unit.blocks n) 0 (successors b.term) in
-      let m : ways_out (made_of unit bs n b) ≡ ways_out b = ap (λ (k : ℕ). max 1 k) l in
+      let m : ways_out (made_of unit bs n b) ≡ ways_out b = ap (λ (k : ℕ). max 1 k) (led_ways n b) in
       let d = new_ways (block_plan unit.blocks n) 0 (successors b.term) in
       let w : length (successors b.term) ≤ ways_out b = omega arith in
       let e = sum_by-cons ways_out b xs in
       let rest = ways_few bs (n + 1) xs in
       omega (arith, a, c, m, d, w, e, rest)
 
+  -- each new block has one way out and one name
+  new_named : (plan : BlockPlan) (p : ℕ) (tos : List Name) → sum_by ways_out (each (λ q to. put_on unit to (new_at plan q)) p tos) ≡ length (each (λ q to. put_on unit to (new_at plan q)) p tos)
+  new_named plan p [] = refl
+  new_named plan p (to ∷ tos) =
+      let a = sum_by-append ways_out (put_on unit to (new_at plan p)) (each (λ q t. put_on unit t (new_at plan q)) (p + 1) tos) in
+      let b = length-append (put_on unit to (new_at plan p)) (each (λ q t. put_on unit t (new_at plan q)) (p + 1) tos) in
+      let here = one (new_at plan p) in
+      let rest = new_named plan (p + 1) tos in
+      omega (arith, a, b, here, rest)
+    where
+      one : (o : Option NewBlock) → sum_by ways_out (put_on unit to o) ≡ length (put_on unit to o)
+      one None = refl
+      one (Some new) = refl
+
+  ways_named : (bs : List Block) (n : ℕ) (xs : List Block) → sum_by ways_out (each (counted_pieces unit bs) n xs) ≤ sum_by ways_out xs + length (each (λ j b. put_names unit (block_plan unit.blocks j) b) n xs)
+  ways_named bs n [] = omega arith
+  ways_named bs n (b ∷ xs) =
+      let plan : BlockPlan = block_plan unit.blocks n in
+      let a = sum_by-append ways_out (counted_pieces unit bs n b) (each (counted_pieces unit bs) (n + 1) xs) in
+      let c = sum_by-cons ways_out (made_of unit bs n b) (new_blocks unit plan b) in
+      let m : ways_out (made_of unit bs n b) ≡ ways_out b = ap (λ (k : ℕ). max 1 k) (led_ways n b) in
+      let d = new_named (block_plan unit.blocks n) 0 (successors b.term) in
+      let l : length (labels (new_blocks unit (block_plan unit.blocks n) b)) ≡ length (new_blocks unit (block_plan unit.blocks n) b) = length-map (new_blocks unit (block_plan unit.blocks n) b) (λ (q : Block). q.label) in
+      let p = length-append (result_names (watches_in unit (block_plan unit.blocks n) b)) (labels (new_blocks unit (block_plan unit.blocks n) b)) in
+      let q = length-append (put_names unit (block_plan unit.blocks n) b) (each (λ j c. put_names unit (block_plan unit.blocks j) c) (n + 1) xs) in
+      let e = sum_by-cons ways_out b xs in
+      let rest = ways_named bs (n + 1) xs in
+      omega (arith, a, c, m, d, l, p, q, e, rest)
+
 -- ---- array types
-
-flat_among : {X Y : Type 0} (g : X → List Y) (xs : List X) (y : Y) → Among y (flat_map g xs) → (x : X) × Among x xs × Among y (g x)
-flat_among g [] y at = absurd at
-flat_among g (x ∷ xs) y at = by (among_either (g x) (flat_map g xs) y at) (λ h. flat_among g xs y h)
-  where
-    by : Among y (g x) ⊎ Among y (flat_map g xs) → (Among y (flat_map g xs) → (z : _) × Among z xs × Among y (g z)) → (z : _) × Among z (x ∷ xs) × Among y (g z)
-    by (inl h) rest = (x, inl refl, h)
-    by (inr h) rest = (let r = rest h in (r.0, inr r.1, r.2))
-
-among_flat : {X Y : Type 0} (g : X → List Y) (xs : List X) (x : X) (y : Y) → Among x xs → Among y (g x) → Among y (flat_map g xs)
-among_flat g [] x y at h = absurd at
-among_flat {X} {Y} g (z ∷ zs) x y (inl e) h = among_left (g z) (flat_map g zs) y (subst (λ (w : X). Among y (g w)) e h)
-among_flat g (z ∷ zs) x y (inr at) h = among_right (g z) (flat_map g zs) y (among_flat g zs x y at h)
 
 same_arrays : (rs : List (Name × Name)) (x : Instr) → instr_arrays (renamed_phi rs x) ≡ instr_arrays x
 same_arrays rs (Binary into op flags ty left right) = refl
@@ -317,11 +370,18 @@ module _ (unit : FunctionPlan) (f : Function) (n : ℕ) where
 same_has : (rs : List (Name × Name)) (x : Instr) → has_result (renamed_phi rs x) ≡ has_result x
 same_has rs x = ap (λ (o : Option (Name × Ret)). is_some o) (same_result rs x)
 
+nothing_watched : (unit : FunctionPlan) → ((j i : ℕ) → watch_at (block_plan unit.blocks j) i ≡ Nothing) → (j i : ℕ) (x : Instr) → count_by has_result (watched unit (watch_at (block_plan unit.blocks j) i) x) ≤ 0
+nothing_watched unit none j i x = (let e : count_by has_result (watched unit (watch_at (block_plan unit.blocks j) i) x) ≡ 0 = ap (λ (w : Watch). count_by has_result (watched unit w x)) (none j i) in omega (arith, e))
+
 pub grows_little : (unit : FunctionPlan) (f : Function) → GrowsLittle unit f
 unfolding total_of
 grows_little unit f = record {
+  declared = same_empty unit f.blocks;
   edges = ways_few unit f.blocks 0 f.blocks;
-  results = (let a = blocks_few has_result (λ x. cond {A = ℕ} (is_select x) 1 0 + cond {A = ℕ} (is_site x) 1 0) unit same_has (λ c. refl) (results_watched unit) f.blocks 0 f.blocks in let b = two_counts_in is_select is_site f.blocks in omega (arith, a, b));
-  sites = (let a = blocks_few is_site (λ x. 0) unit same_site (λ c. refl) (sites_watched unit) f.blocks 0 f.blocks in let b = no_sums f.blocks in omega (arith, a, b));
+  by_names = ways_named unit f.blocks 0 f.blocks;
+  results = (let a = blocks_few has_result (λ x. cond {A = ℕ} (is_select x) 1 0 + cond {A = ℕ} (is_site x) 1 0) unit same_has (λ c. refl) (λ j i x. results_watched unit (watch_at (block_plan unit.blocks j) i) x) f.blocks 0 f.blocks in let b = two_counts_in is_select is_site f.blocks in omega (arith, a, b));
+  unwatched = λ none. (let a = blocks_few has_result (λ x. 0) unit same_has (λ c. refl) (nothing_watched unit none) f.blocks 0 f.blocks in let b = no_sums f.blocks in omega (arith, a, b));
+  selects = (let a = blocks_few is_select (λ x. 0) unit same_select (λ c. refl) (λ j i x. selects_watched unit (watch_at (block_plan unit.blocks j) i) x) f.blocks 0 f.blocks in let b = no_sums f.blocks in omega (arith, a, b));
+  sites = (let a = blocks_few is_site (λ x. 0) unit same_site (λ c. refl) (λ j i x. sites_watched unit (watch_at (block_plan unit.blocks j) i) x) f.blocks 0 f.blocks in let b = no_sums f.blocks in omega (arith, a, b));
   arrays = λ n h. arrays_stay unit f n h;
 }

@@ -165,7 +165,7 @@ held_more H K more Null h = tt
 held_more H K more (Local r) h = more r h
 held_more H K more (Global name) h = tt
 
-all_held_more : (H K : Name → Type 0) → ((r : Name) → H r → K r) → (us : List Use) → AllHeld H us → AllHeld K us
+pub all_held_more : (H K : Name → Type 0) → ((r : Name) → H r → K r) → (us : List Use) → AllHeld H us → AllHeld K us
 all_held_more H K more [] h = tt
 all_held_more H K more (u ∷ us) h = (held_more H K more u.1 h.0, all_held_more H K more us h.1)
 
@@ -173,7 +173,7 @@ either_more : (H K : Name → Type 0) (ns ms : List Name) → ((r : Name) → H 
 either_more H K ns ms more e r (inl h) = inl (more r h)
 either_more H K ns ms more e r (inr h) = inr (subst (λ (xs : List Name). Among r xs) e h)
 
-ready_more : (H K : Name → Type 0) → ((r : Name) → H r → K r) → (xs : List Instr) (t : Term) → Ready H xs t → Ready K xs t
+pub ready_more : (H K : Name → Type 0) → ((r : Name) → H r → K r) → (xs : List Instr) (t : Term) → Ready H xs t → Ready K xs t
 ready_more H K more [] t h = all_held_more H K more (term_reads t) h
 ready_more H K more (x ∷ xs) t h =
     (all_held_more H K more (reads x) h.0, ready_more (λ r. H r ⊎ Among r (result_names (x ∷ []))) (λ r. K r ⊎ Among r (result_names (x ∷ []))) (either_more H K (result_names (x ∷ [])) (result_names (x ∷ [])) more refl) xs t h.1)

@@ -8,5 +8,8 @@ pub mod Instrs
 pub mod Listed
 pub mod NamesKept
 pub mod PhiKept
+pub mod PlainNames
 pub mod PutFormed
+pub mod Reordered
 pub mod Ways
+pub mod Within

@@ -1,6 +1,6 @@
 -- Membership, counts of names, and lists that are made item by item.
 use Rattle.std.proofs.Common.{◌≡◌, ℕ, zero, suc, ◌+◌, ◌≤◌, ◌⊎◌, inl, inr, Bool, true, false, cond, List, [], ◌∷◌, ◌++◌, map, take, drop, Some, slice_get, refl, sym, ap, subst, ◌∙◌, arith, zero-add}
-use Rattle.std.specs.List.{list_all}
+use Rattle.std.specs.List.{flat_map, list_all}
 use Rattle.std.specs.Cmp.Lexicographic.{bytes_decides}
 use Rattle.std.proofs.lemmas.Bool.{and_from, and_parts}
 use Rattle.std.proofs.lemmas.List.Sums.{sum_by-append, sum_by-cons}
@@ -64,6 +64,19 @@ pub map_among : {X Y : Type 0} (g : X → Y) (xs : List X) (y : Y) → Among y (
 map_among g [] y at = absurd at
 map_among g (x ∷ xs) y (inl e) = (x, inl refl, e)
 map_among g (x ∷ xs) y (inr at) = let found = map_among g xs y at in (found.0, inr found.1, found.2)
+
+pub flat_among : {X Y : Type 0} (g : X → List Y) (xs : List X) (y : Y) → Among y (flat_map g xs) → (x : X) × Among x xs × Among y (g x)
+flat_among g [] y at = absurd at
+flat_among g (x ∷ xs) y at = by (among_either (g x) (flat_map g xs) y at) (λ h. flat_among g xs y h)
+  where
+    by : Among y (g x) ⊎ Among y (flat_map g xs) → (Among y (flat_map g xs) → (z : _) × Among z xs × Among y (g z)) → (z : _) × Among z (x ∷ xs) × Among y (g z)
+    by (inl h) rest = (x, inl refl, h)
+    by (inr h) rest = (let r = rest h in (r.0, inr r.1, r.2))
+
+pub among_flat : {X Y : Type 0} (g : X → List Y) (xs : List X) (x : X) (y : Y) → Among x xs → Among y (g x) → Among y (flat_map g xs)
+among_flat g [] x y at h = absurd at
+among_flat {X} {Y} g (z ∷ zs) x y (inl e) h = among_left (g z) (flat_map g zs) y (subst (λ (w : X). Among y (g w)) e h)
+among_flat g (z ∷ zs) x y (inr at) h = among_right (g z) (flat_map g zs) y (among_flat g zs x y at h)
 
 pub taken_among : {X : Type 0} (k : ℕ) (xs : List X) (x : X) → Among x (take k xs) → Among x xs
 taken_among zero xs x at = absurd at

@@ -16,7 +16,7 @@ use Rattle.counted_rules.proofs.Instrs.{Put, Head, Tail, Taken, Added, Cast, Not
 use Rattle.counted_rules.proofs.Listed.{Name, among_left, among_map, among_right, at_among, at_each, map_among, same_is}
 use Rattle.counted_rules.proofs.Ways.{IsWay, made_of, made_on, new_put, plan_at}
 use Rattle.counted_rules.specs.Kept.{TakesOver}
-use Rattle.counted_rules.specs.PlanFits.{IsCounter, PlanFits, WatchFits, put_names, step_signature, value_signature, watches_in}
+use Rattle.counted_rules.specs.PlanFits.{CounterFits, IsCounter, IsUnit, PlanFits, WatchFits, put_names, step_signature, value_signature, watches_in}
 use Rattle.ir_rules.specs.Declarations.{is_increment, is_increment_step, is_target_note, is_value_note}
 use Rattle.ir_rules.specs.Existing.{calls_profile, names_profile}
 use Rattle.ir_rules.specs.Intrinsics.{is_counter_total, names_unit}
@@ -131,33 +131,33 @@ module _ (m m2 : Module) (takes : TakesOver m m2) (unit : FunctionPlan) (f : Fun
       let g = map_among signature m2.functions (n, r, ts) at in
       among_right (variables m2) (function_names m2) n (subst (λ (k : Name). Among k (function_names m2)) (sym (ap (λ (s : Name × Ret × List Ty). s.0) g.2)) (among_map (λ (h : Function). h.name) m2.functions g.0 g.1))
 
-  unit_stands : Among unit.symbol (symbols m2)
-  unit_stands = among_left (variables m2) (function_names m2) unit.symbol (among_is unit.symbol (variables m2) (and_parts (is_unit_name unit.symbol) (is_among unit.symbol (variables m2)) fits.known).1)
-
   total_fits : is_counter_total unit.counters ≡ true → is_integer_of I32 unit.counters ≡ true
   unfolding is_counter_total
   total_fits h =
       let most = leb-true unit.counters 1048576 (and_parts (nat_le 1 unit.counters) (nat_le unit.counters 1048576) h).1 in
       lt-ltb unit.counters (2 ^ 32) (omega (arith, most))
 
-  of_unit_fit : (us : List Use) → AllFit m2 counting true us → AllFit m2 counting true ((Ptr, Global unit.symbol) ∷ (I64, Int unit.hash) ∷ us)
-  of_unit_fit us h =
-      all_cons m2 counting true Ptr (Global unit.symbol) ((I64, Int unit.hash) ∷ us) (refl, unit_stands, refl) (all_cons m2 counting true I64 (Int unit.hash) us fits.hash h)
+  of_unit_fit : IsUnit m2 unit → (us : List Use) → AllFit m2 counting true us → AllFit m2 counting true ((Ptr, Global unit.symbol) ∷ (I64, Int unit.hash) ∷ us)
+  of_unit_fit is us h =
+      all_cons m2 counting true Ptr (Global unit.symbol) ((I64, Int unit.hash) ∷ us) (refl, unit_stands, refl) (all_cons m2 counting true I64 (Int unit.hash) us is.hash h)
+    where
+      unit_stands : Among unit.symbol (symbols m2)
+      unit_stands = among_left (variables m2) (function_names m2) unit.symbol (among_is unit.symbol (variables m2) (and_parts (is_unit_name unit.symbol) (is_among unit.symbol (variables m2)) is.known).1)
 
   called : (n : Name) (us : List Use) → is_profile_name n ≡ true → Among n (symbols m2) → AllFit m2 counting true us → AllFit m2 counting (is_profile_name n) ((Ptr, Global n) ∷ us)
   called n us of at h = subst (λ (b : Bool). AllFit m2 counting b ((Ptr, Global n) ∷ us)) (sym of) (all_cons m2 counting true Ptr (Global n) us (refl, at, refl) h)
 
-  counter_place : (c : ℕ) → IsCounter unit c → (names_unit m2 (Global unit.symbol) && (true && (is_counter_total unit.counters && true))) ≡ true
-  counter_place c h = and_from (names_unit m2 (Global unit.symbol)) (true && (is_counter_total unit.counters && true)) fits.known (and_from true (is_counter_total unit.counters && true) refl (and_from (is_counter_total unit.counters) true h.1 refl))
+  counter_place : (c : ℕ) → IsCounter m2 unit c → (names_unit m2 (Global unit.symbol) && (true && (is_counter_total unit.counters && true))) ≡ true
+  counter_place c h = and_from (names_unit m2 (Global unit.symbol)) (true && (is_counter_total unit.counters && true)) h.of_unit.known (and_from true (is_counter_total unit.counters && true) refl (and_from (is_counter_total unit.counters) true h.total refl))
 
-  increment_formed : (c : ℕ) → IsCounter unit c → InstrFormed m2 counting (increment unit c)
+  increment_formed : (c : ℕ) → CounterFits m2 unit c → InstrFormed m2 counting (increment unit c)
   increment_formed c h = record {
     named = refl;
-    fit = called increment_name ((Ptr, Global unit.symbol) ∷ (I64, Int unit.hash) ∷ (I32, Int unit.counters) ∷ (I32, Int c) ∷ []) increment_is.1 (signed increment_name Void (Ptr ∷ I64 ∷ I32 ∷ I32 ∷ []) fits.increments) (of_unit_fit ((I32, Int unit.counters) ∷ (I32, Int c) ∷ []) (all_cons m2 counting true I32 (Int unit.counters) ((I32, Int c) ∷ []) (total_fits h.1) (all_cons m2 counting true I32 (Int c) [] h.0 (all_nil m2 counting true))));
+    fit = called increment_name ((Ptr, Global unit.symbol) ∷ (I64, Int unit.hash) ∷ (I32, Int unit.counters) ∷ (I32, Int c) ∷ []) increment_is.1 (signed increment_name Void (Ptr ∷ I64 ∷ I32 ∷ I32 ∷ []) h.1) (of_unit_fit h.0.of_unit ((I32, Int unit.counters) ∷ (I32, Int c) ∷ []) (all_cons m2 counting true I32 (Int unit.counters) ((I32, Int c) ∷ []) (total_fits h.0.total) (all_cons m2 counting true I32 (Int c) [] h.0.number (all_nil m2 counting true))));
     typed = refl;
-    calls = (refl, fits.increments);
+    calls = (refl, h.1);
     weighed = refl;
-    counts = rw increment_is.0 (counter_place c h);
+    counts = rw increment_is.0 (counter_place c h.0);
     counted = rw increment_is.2 refl;
   }
 
@@ -195,7 +195,7 @@ module _ (m m2 : Module) (takes : TakesOver m m2) (unit : FunctionPlan) (f : Fun
             counted = refl;
           }
 
-          watch_fits : IsCounter unit c × Among step_signature (signatures m2)
+          watch_fits : IsCounter m2 unit c × Among step_signature (signatures m2)
           watch_fits = subst (λ (w : Watch). WatchFits m2 unit w) is (fits.watch j k b y at here)
 
           register_known : Among (r, Value I64) (values counting)
@@ -204,7 +204,7 @@ module _ (m m2 : Module) (takes : TakesOver m m2) (unit : FunctionPlan) (f : Fun
           added_formed : InstrFormed m2 counting (increment_by unit c r)
           added_formed = record {
             named = refl;
-            fit = called step_name ((Ptr, Global unit.symbol) ∷ (I64, Int unit.hash) ∷ (I32, Int unit.counters) ∷ (I32, Int c) ∷ (I64, Local r) ∷ []) step_is.1 (signed step_name Void (Ptr ∷ I64 ∷ I32 ∷ I32 ∷ I64 ∷ []) watch_fits.1) (of_unit_fit ((I32, Int unit.counters) ∷ (I32, Int c) ∷ (I64, Local r) ∷ []) (all_cons m2 counting true I32 (Int unit.counters) ((I32, Int c) ∷ (I64, Local r) ∷ []) (total_fits watch_fits.0.1) (all_cons m2 counting true I32 (Int c) ((I64, Local r) ∷ []) watch_fits.0.0 (all_cons m2 counting true I64 (Local r) [] register_known (all_nil m2 counting true)))));
+            fit = called step_name ((Ptr, Global unit.symbol) ∷ (I64, Int unit.hash) ∷ (I32, Int unit.counters) ∷ (I32, Int c) ∷ (I64, Local r) ∷ []) step_is.1 (signed step_name Void (Ptr ∷ I64 ∷ I32 ∷ I32 ∷ I64 ∷ []) watch_fits.1) (of_unit_fit watch_fits.0.of_unit ((I32, Int unit.counters) ∷ (I32, Int c) ∷ (I64, Local r) ∷ []) (all_cons m2 counting true I32 (Int unit.counters) ((I32, Int c) ∷ (I64, Local r) ∷ []) (total_fits watch_fits.0.total) (all_cons m2 counting true I32 (Int c) ((I64, Local r) ∷ []) watch_fits.0.number (all_cons m2 counting true I64 (Local r) [] register_known (all_nil m2 counting true)))));
             typed = refl;
             calls = (refl, watch_fits.1);
             weighed = refl;
@@ -227,23 +227,23 @@ module _ (m m2 : Module) (takes : TakesOver m m2) (unit : FunctionPlan) (f : Fun
             counted = refl;
           }
 
-          site_fits : (nat_lt s 65536 ≡ true) × Among value_signature (signatures m2)
+          site_fits : IsUnit m2 unit × (nat_lt s 65536 ≡ true) × Among value_signature (signatures m2)
           site_fits = subst (λ (w : Watch). WatchFits m2 unit w) is (fits.watch j k b y at here)
 
           target_known : Among (r, Value I64) (values counting)
           target_known = block_value m m2 takes unit f j b (Convert r PtrToInt no_flags Ptr o I64) (r, Value I64) at (in_block k y (Convert r PtrToInt no_flags Ptr o I64) r here target_stands) refl
 
           small : is_integer_of I32 s ≡ true
-          small = (let few = ltb-true s 65536 site_fits.0 in lt-ltb s (2 ^ 32) (omega (arith, few)))
+          small = (let few = ltb-true s 65536 site_fits.1 in lt-ltb s (2 ^ 32) (omega (arith, few)))
 
           noted_formed : InstrFormed m2 counting (note_target unit s r)
           noted_formed = record {
             named = refl;
-            fit = called value_name ((Ptr, Global unit.symbol) ∷ (I64, Int unit.hash) ∷ (I64, Local r) ∷ (I32, Int 0) ∷ (I32, Int s) ∷ []) value_is.2 (signed value_name Void (Ptr ∷ I64 ∷ I64 ∷ I32 ∷ I32 ∷ []) site_fits.1) (of_unit_fit ((I64, Local r) ∷ (I32, Int 0) ∷ (I32, Int s) ∷ []) (all_cons m2 counting true I64 (Local r) ((I32, Int 0) ∷ (I32, Int s) ∷ []) target_known (all_cons m2 counting true I32 (Int 0) ((I32, Int s) ∷ []) refl (all_cons m2 counting true I32 (Int s) [] small (all_nil m2 counting true)))));
+            fit = called value_name ((Ptr, Global unit.symbol) ∷ (I64, Int unit.hash) ∷ (I64, Local r) ∷ (I32, Int 0) ∷ (I32, Int s) ∷ []) value_is.2 (signed value_name Void (Ptr ∷ I64 ∷ I64 ∷ I32 ∷ I32 ∷ []) site_fits.2) (of_unit_fit site_fits.0 ((I64, Local r) ∷ (I32, Int 0) ∷ (I32, Int s) ∷ []) (all_cons m2 counting true I64 (Local r) ((I32, Int 0) ∷ (I32, Int s) ∷ []) target_known (all_cons m2 counting true I32 (Int 0) ((I32, Int s) ∷ []) refl (all_cons m2 counting true I32 (Int s) [] small (all_nil m2 counting true)))));
             typed = refl;
-            calls = (refl, site_fits.1);
+            calls = (refl, site_fits.2);
             weighed = refl;
-            counts = rw value_is.0 (rw value_is.1 (and_from (names_unit m2 (Global unit.symbol)) (nat_lt s 65536) fits.known site_fits.0));
+            counts = rw value_is.0 (rw value_is.1 (and_from (names_unit m2 (Global unit.symbol)) (nat_lt s 65536) site_fits.0.known site_fits.1));
             counted = rw value_is.3 refl;
           }
 

@@ -1,5 +1,5 @@
 -- What a function that counts keeps of the rules.
-use Rattle.std.specs.Prelude.{◌≡◌, ℕ, ◌≤◌, true, false, List}
+use Rattle.std.specs.Prelude.{◌≡◌, ℕ, ◌≤◌, true, false, List, [], ◌∷◌, IsPermutation}
 use Rattle.count_plan.specs.Counted.{counted_function}
 use Rattle.count_plan.specs.declared.plan.FunctionPlan.{FunctionPlan}
 use Rattle.counted_rules.specs.PlanFits.{PlanFits}
@@ -9,6 +9,7 @@ use Rattle.ir_rules.specs.Reserved.{is_reserved_function}
 use Rattle.ir_rules.specs.Scopes.{Signature, function_names, is_of_profile, names, signatures, symbols}
 use Rattle.ir_rules.specs.WellFormed.{FunctionFormed}
 use Rattle.ir_tree.specs.Functions.{is_declared, is_profile_name}
+use Rattle.ir_tree.specs.declared.types.Block.{Block}
 use Rattle.ir_tree.specs.declared.types.Function.{Function}
 use Rattle.ir_tree.specs.declared.types.Module.{Module}
 
@@ -33,3 +34,12 @@ FunctionsStayFormed = (m m2 : Module) (unit : FunctionPlan) (f : Function) → T
 -- a declared function is well formed in it, whatever the plan
 abbrev pub DeclaredStayFormed : Type 0
 DeclaredStayFormed = (m m2 : Module) (unit : FunctionPlan) (f : Function) → TakesOver m m2 → Among f m.functions → FunctionFormed m f → is_declared f ≡ true → FunctionFormed m2 (counted_function unit f)
+
+-- the same blocks, those behind the first in any order
+abbrev pub IsReordered : List Block → List Block → Type 0
+IsReordered [] cs = cs ≡ []
+IsReordered (b ∷ bs) cs = (rest : List Block) × (cs ≡ b ∷ rest) × IsPermutation bs rest
+
+-- a function that doesn't count is well formed in it, in whatever order its blocks behind the first stand
+abbrev pub ReorderedStayFormed : Type 0
+ReorderedStayFormed = (m m2 : Module) (f : Function) (blocks : List Block) → TakesOver m m2 → Among f m.functions → FunctionFormed m f → IsReordered f.blocks blocks → FunctionFormed m2 (record f { blocks = blocks })

@@ -1,3 +1,5 @@
 pub mod Grown
 pub mod Kept
+pub mod PlainNames
 pub mod PlanFits
+pub mod Within

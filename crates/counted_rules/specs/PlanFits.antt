@@ -51,27 +51,35 @@ step_signature = (step_name, Void, Ptr ∷ I64 ∷ I32 ∷ I32 ∷ I64 ∷ [])
 abbrev pub value_signature : Signature
 value_signature = (value_name, Void, Ptr ∷ I64 ∷ I64 ∷ I32 ∷ I32 ∷ [])
 
--- the counter has a number of 32 bits, and the unit so many counters as a unit may have
-abbrev pub IsCounter : FunctionPlan → ℕ → Type 0
-IsCounter unit counter = (is_integer_of I32 counter ≡ true) × (is_counter_total unit.counters ≡ true)
+-- calls of the intrinsics can name the unit, and tell its hash
+pub record IsUnit (m : Module) (unit : FunctionPlan) : Type 0 where
+  pub known : names_unit m (Global unit.symbol) ≡ true
+  pub hash : is_integer_of I64 unit.hash ≡ true
 
--- what a watch needs of the module that counts
+-- the unit has so many counters as a unit may have, and the counter a number of 32 bits
+pub record IsCounter (m : Module) (unit : FunctionPlan) (counter : ℕ) : Type 0 where
+  pub of_unit : IsUnit m unit
+  pub total : is_counter_total unit.counters ≡ true
+  pub number : is_integer_of I32 counter ≡ true
+
+-- what a counter that rises by one needs of the module that counts
+abbrev pub CounterFits : Module → FunctionPlan → ℕ → Type 0
+CounterFits m unit counter = IsCounter m unit counter × Among increment_signature (signatures m)
+
+-- what a watch needs of it
 abbrev pub WatchFits : Module → FunctionPlan → Watch → Type 0
 WatchFits m unit Nothing = Unit {0}
-WatchFits m unit (Condition register counter) = IsCounter unit counter × Among step_signature (signatures m)
-WatchFits m unit (Target register site) = (nat_lt site 65536 ≡ true) × Among value_signature (signatures m)
+WatchFits m unit (Condition register counter) = IsCounter m unit counter × Among step_signature (signatures m)
+WatchFits m unit (Target register site) = IsUnit m unit × (nat_lt site 65536 ≡ true) × Among value_signature (signatures m)
 
 -- ---- the plan of a function
 
--- New names are names, apart from those of the function and from each other; in the module that counts the unit is named and the
--- intrinsics are declared; and counters and sites are in range
+-- New names are names, apart from those of the function and from each other; and each counter and watch has what it needs in the
+-- module that counts. A plan without any owes that module nothing
 pub record PlanFits (m : Module) (unit : FunctionPlan) (f : Function) : Type 0 where
   pub apart : (n : List ℕ) → times n (names f) + times n (new_names unit f.blocks) ≤ 1
   pub named : (n : List ℕ) → Among n (new_names unit f.blocks) → is_local_name n ≡ true
-  pub known : names_unit m (Global unit.symbol) ≡ true
-  pub hash : is_integer_of I64 unit.hash ≡ true
-  pub increments : Among increment_signature (signatures m)
-  pub head : (j c : ℕ) (b : Block) → slice_get f.blocks j ≡ Some b → (block_plan unit.blocks j).head ≡ Some c → IsCounter unit c
-  pub tail : (j c : ℕ) (b : Block) → slice_get f.blocks j ≡ Some b → (block_plan unit.blocks j).tail ≡ Some c → IsCounter unit c
+  pub head : (j c : ℕ) (b : Block) → slice_get f.blocks j ≡ Some b → (block_plan unit.blocks j).head ≡ Some c → CounterFits m unit c
+  pub tail : (j c : ℕ) (b : Block) → slice_get f.blocks j ≡ Some b → (block_plan unit.blocks j).tail ≡ Some c → CounterFits m unit c
   pub watch : (j i : ℕ) (b : Block) (x : Instr) → slice_get f.blocks j ≡ Some b → slice_get (behind_phis b.instrs) i ≡ Some x → WatchFits m unit (watch_at (block_plan unit.blocks j) i)
-  pub edge : (j p c : ℕ) (b : Block) (to : List ℕ) (new : NewBlock) → slice_get f.blocks j ≡ Some b → slice_get (successors b.term) p ≡ Some to → new_at (block_plan unit.blocks j) p ≡ Some new → new.counter ≡ Some c → IsCounter unit c
+  pub edge : (j p c : ℕ) (b : Block) (to : List ℕ) (new : NewBlock) → slice_get f.blocks j ≡ Some b → slice_get (successors b.term) p ≡ Some to → new_at (block_plan unit.blocks j) p ≡ Some new → new.counter ≡ Some c → CounterFits m unit c

@@ -3,4 +3,7 @@
 
 mod laws;
 
-pub use laws::{functions_grow_little, functions_stay_formed, names_stay_apart};
+pub use laws::{
+    functions_grow_little, functions_stay_formed, limits_are_kept, names_are_plain,
+    names_stay_apart, reordered_are_as_large,
+};

@@ -8,12 +8,14 @@ ghost use Rattle.ir_likeness.specs.Like.{AreLike};
 ghost use Rattle.ir_tree.specs.Blocks.{labels};
 ghost use Rattle.ir_tree.specs.Names.{same};
 ghost use Rattle.ir_tree.specs.declared.types.Module.{Module};
+ghost use Rattle.split_accepted.specs.Accepted.{HasRoom, IsFreeLabel, IsPlainAccepted};
 
 use count_insert::insert_into_function;
 use count_plan::{BlockPlan, FunctionPlan, NewBlock};
 use edge_split::split_behaves;
 use ir_tree::{Function, Name, Seq};
 use pgo_base::NoMemory;
+use split_accepted::split_is_accepted;
 use std::alloc::Global;
 
 /// The function with a new block of this label on the way out of a block, counted from 0, by its successor at a position. The new
@@ -30,8 +32,10 @@ pub fn split(
     ensures made { IfOk result (λ made. made ≡ spec.split block position label function) }
     ensures behaves { (m : Module) (j : ℕ) → AreFormed m → slice_get m.functions j ≡ Some function → count_by (same label) (labels function.blocks) ≡ 0 → IfOk result (λ made. AreLike m (with_function m j made) 2 0) }
     ensures marks { (m : Module) (j : ℕ) → AreFormed m → slice_get m.functions j ≡ Some function → count_by (same label) (labels function.blocks) ≡ 0 → IfOk result (λ made. MarksStay m (with_function m j made) 2 0) }
+    ensures accepted { (m : Module) (j : ℕ) → IsPlainAccepted m → slice_get m.functions j ≡ Some function → IsFreeLabel label function → HasRoom m function → IfOk result (λ made. IsPlainAccepted (with_function m j made)) }
 {
     split_behaves();
+    split_is_accepted();
     let plan = split_plan(alloc, block, position, label)?;
     let made = insert_into_function(alloc, &plan, function)?;
     Ok(made)

@@ -1,7 +1,5 @@
-use Rattle.std.proofs.Common.{◌≡◌, ◌+◌, ◌-◌, List, [], ◌∷◌, ◌++◌, sym, ap, ◌∙◌, append_assoc, arith, rules}
+use Rattle.std.proofs.Common.{◌≡◌, [], ◌∷◌, ◌++◌, rules}
 use Rattle.count_plan.specs.Ways.{no_block_plan}
-use Rattle.count_plan.specs.declared.plan.BlockPlan.{BlockPlan}
-use Rattle.edge_split.specs.Split.{at_place}
 use Rattle.split_edge.proofs.Places.{place_put}
 use Rattle.split_edge.proofs.make.blocks_before.Goals as goal
 

@@ -1,7 +1,7 @@
--- What a plain module within the limits has few of, part by part.
-use Rattle.std.proofs.Common.{◌≡◌, ℕ, ◌<◌, ◌≤◌, ◌⊎◌, inl, inr, Bool, cond, List, [], ◌∷◌, ◌++◌, length, sum_by, refl, sym, ap, subst, ◌∙◌, arith}
+-- A module passes no limit where each quantity is within its own.
+use Rattle.std.proofs.Common.{◌≡◌, ℕ, ◌<◌, ◌≤◌, ◌⊎◌, inl, inr, Bool, cond, List, [], ◌∷◌, ◌++◌, length, refl, sym, ap, subst, ◌∙◌}
 use Rattle.std.proofs.lemmas.Bool.{cases_lt, le-ltb, lt-ltb}
-use Rattle.std.proofs.lemmas.List.Sums.{sum_by-cons}
+use Rattle.counted_rules.specs.Within.{IsWithin}
 use Rattle.ir_rules.specs.Kinds.{kind_of}
 use Rattle.ir_rules.specs.Limits.{above, all_arrays, cells, counters_in, each_above, most, passed, passed_by, registers, reported, sites_in}
 use Rattle.ir_rules.specs.Lists.{Among}
@@ -9,7 +9,6 @@ use Rattle.ir_rules.specs.declared.place.Kind.{Kind}
 use Rattle.ir_rules.specs.declared.place.LimitKind.{LimitKind}
 use Rattle.ir_rules.specs.declared.place.LimitKind.TheVariants.{Functions, Globals, Edges, Registers, Object, Cells, Sites, Counters}
 use Rattle.ir_tree.specs.Edges.{edges_in}
-use Rattle.ir_tree.specs.declared.types.Function.{Function}
 use Rattle.ir_tree.specs.declared.types.Module.{Module}
 
 nil_left : {Y : Type 0} (ys zs : List Y) → ys ++ zs ≡ [] → ys ≡ []
@@ -43,22 +42,6 @@ none_each : {X : Type 0} (which : LimitKind) (bound : ℕ) (quantity : X → ℕ
 none_each which bound quantity [] h = refl
 none_each which bound quantity (y ∷ ys) h = nil_both (above which bound (quantity y)) (each_above which bound quantity ys) (none_above which bound (quantity y) (h y (inl refl))) (none_each which bound quantity ys (λ x at. h x (inr at)))
 
-pub part_of_sum : {X : Type 0} (g : X → ℕ) (xs : List X) (x : X) → Among x xs → g x ≤ sum_by g xs
-part_of_sum g [] x at = absurd at
-part_of_sum g (y ∷ ys) x (inl e) = (let same : g x ≡ g y = ap g e in omega (arith, same, sum_by-cons g y ys))
-part_of_sum g (y ∷ ys) x (inr at) = omega (arith, sum_by-cons g y ys, part_of_sum g ys x at)
-
--- within each limit of its kind
-pub record IsWithin (kind : Kind) (m : Module) : Type 0 where
-  pub functions : length m.functions ≤ most kind Functions
-  pub globals : length m.globals ≤ most kind Globals
-  pub edges : (f : Function) → Among f m.functions → edges_in f ≤ most kind Edges
-  pub results : (f : Function) → Among f m.functions → registers kind f ≤ most kind Registers
-  pub objects : (size : ℕ) → Among size (all_arrays m) → size ≤ most kind Object
-  pub memory : cells m ≤ most kind Cells
-  pub sites : sites_in kind m ≤ most kind Sites
-  pub counted : counters_in kind m ≤ most kind Counters
-
 module _ (kind : Kind) (m : Module) where
   abbrev from_counters : List (LimitKind × ℕ)
   from_counters = above Counters (most kind Counters) (counters_in kind m)
@@ -81,7 +64,7 @@ module _ (kind : Kind) (m : Module) where
   abbrev from_globals : List (LimitKind × ℕ)
   from_globals = above Globals (most kind Globals) (length m.globals) ++ from_edges
 
-  pub is_within : passed_by kind m ≡ [] → IsWithin kind m
+  is_within : passed_by kind m ≡ [] → IsWithin kind m
   is_within e =
       let a = nil_right (above Functions (most kind Functions) (length m.functions)) from_globals e in
       let b = nil_right (above Globals (most kind Globals) (length m.globals)) from_edges a in
@@ -100,7 +83,7 @@ module _ (kind : Kind) (m : Module) where
         counted = above_none Counters (most kind Counters) (counters_in kind m) (nil_right (above Sites (most kind Sites) (sites_in kind m)) from_counters g);
       }
 
-  pub none_passed : IsWithin kind m → passed_by kind m ≡ []
+  none_passed : IsWithin kind m → passed_by kind m ≡ []
   none_passed w =
       nil_both (above Functions (most kind Functions) (length m.functions)) from_globals (none_above Functions (most kind Functions) (length m.functions) w.functions) (
       nil_both (above Globals (most kind Globals) (length m.globals)) from_edges (none_above Globals (most kind Globals) (length m.globals) w.globals) (
