@@ -1,3 +1,4 @@
+mod Sizes
 pub mod FreshNames
 pub mod GenFits
 pub mod GenNames

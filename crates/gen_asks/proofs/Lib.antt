@@ -1,0 +1,7 @@
+mod Asking
+mod Listed
+mod Placed
+mod Plans
+mod Rising
+mod Spare
+mod Units

@@ -1,0 +1,4 @@
+mod Limits
+mod Listed
+mod Owned
+mod Refused
