@@ -58,7 +58,7 @@ module _ (entry_first : Bool) (m : Module) (accepted : IsAccepted m) (plain : ki
     defined_edges : edges_in f ≡ 1 + sum_by ways_out f.blocks
     defined_edges = ap (λ (b : Bool). cond {A = ℕ} b 0 (1 + sum_by ways_out f.blocks)) some
 
-    room : length (counted_edges entry_first f) + length (graph_of f).selects ≤ 1048576
+    pub room : length (counted_edges entry_first f) + length (graph_of f).selects ≤ 1048576
     room =
         let a = counted_few (length (graph_of f).edges) (order_of (graph_of f) entry_first) entry_first in
         let b = edges_few f (graph_of f) is in

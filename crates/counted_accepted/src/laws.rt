@@ -1,5 +1,5 @@
 // What holds of the module that counts an accepted plain module, the clauses of functions that do nothing.
-ghost use Rattle.counted_accepted.specs.Gen.{IsCountedAccepted, IsCountedKind, IsCountedWell, PlansFit};
+ghost use Rattle.counted_accepted.specs.Gen.{CountersAreFew, IsCountedAccepted, IsCountedKind, IsCountedWell, PlansFit};
 
 use accepted_counts::plain_can_be_counted;
 use cfg_edges::graphs_stand;
@@ -18,6 +18,17 @@ pub fn gen_plans_fit()
     limits_are_kept();
     graphs_stand();
     look_ups_tell();
+}
+
+/// A defined function of an accepted plain module gets at most 1,048,576 counters, in both modes.
+pub fn counters_are_few()
+    ensures { CountersAreFew }
+{
+    plain_can_be_counted();
+    graphs_stand();
+    look_ups_tell();
+    names_are_plain();
+    limits_are_kept();
 }
 
 /// The module that counts an accepted plain module is well formed, in both modes.

@@ -2,9 +2,7 @@
 #![tactic(auto)]
 
 mod few;
-
-pub use few::counters_fit;
-
 mod laws;
 
-pub use laws::{counted_is_formed, gen_is_accepted, gen_plans_fit};
+pub use few::counters_fit;
+pub use laws::{counted_is_formed, counters_are_few, gen_is_accepted, gen_plans_fit};

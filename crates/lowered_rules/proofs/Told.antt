@@ -1,8 +1,8 @@
 -- What the calls of a module tell of the units that they name, where lowering refuses none.
-use Rattle.std.proofs.Common.{◌≡◌, ℕ, suc, ◌<◌, ◌≤◌, ◌==◌, inl, inr, Bool, true, false, cond, nat_lt, List, [], ◌∷◌, ◌++◌, map, filter, Option, Some, None, refl, sym, ap, subst, ◌∙◌, arith}
+use Rattle.std.proofs.Common.{◌≡◌, ℕ, suc, ◌<◌, ◌≤◌, ◌==◌, inl, inr, Bool, true, false, cond, nat_le, nat_lt, List, [], ◌∷◌, ◌++◌, map, filter, Option, Some, None, refl, sym, ap, subst, ◌∙◌, arith}
 use Rattle.std.specs.Prelude.{unwrap_or}
 use Rattle.std.specs.List.{filter_map, list_any}
-use Rattle.std.proofs.lemmas.Bool.{and_from, and_parts, eqb-true, ltb-true}
+use Rattle.std.proofs.lemmas.Bool.{and_from, and_parts, eqb-true, leb-true, ltb-true}
 use Rattle.std.proofs.lemmas.Option.{none-some, same_Some}
 use Rattle.ir_rules.specs.Intrinsics.{is_counter_total, names_unit}
 use Rattle.ir_rules.specs.Kinds.{is_unit_name, kind_of}
@@ -18,10 +18,11 @@ use Rattle.ir_tree.specs.declared.types.Global1.{Global1}
 use Rattle.ir_tree.specs.declared.types.Instr.{Instr}
 use Rattle.ir_tree.specs.declared.types.Module.{Module}
 use Rattle.ir_tree.specs.declared.types.Operand.TheVariants.{Global}
-use Rattle.ir_tree.specs.declared.types.Ty.TheVariants.{I64}
+use Rattle.ir_tree.specs.declared.types.Ty.TheVariants.{I32, I64}
 use Rattle.lowered_rules.proofs.Listed.{Name, among_flat, among_filter, among_is, among_made, among_map, any_of, filter_among, flat_among, made_among, made_none, map_among, nil_left, nil_right, same_is, same_self, some_of}
 use Rattle.lowered_rules.proofs.Turned.{Notes, Rises, Stays, Turn, turn}
 use Rattle.lowered_rules.specs.Kept.{IsLowerable, IsTold}
+use Rattle.lowered_rules.specs.Small.{IsSmallAsk}
 use Rattle.lowering.specs.Asked.{Asked, Rise, Note, all_asked, asked, asked_in, hash_asked, symbol_asked}
 use Rattle.lowering.specs.Refusals.{CountDiffers, HashDiffers, IndexPast, Refusal, differs, failed, failed_by, failed_counts, name_of_unit, noted_alone, without_counters}
 use Rattle.lowering.specs.Units.{asked_of, counters_asked, counters_told, hash_told, is_asked_of, most, names_used, new_globals, sites_asked, sites_told, unit_globals}
@@ -54,23 +55,32 @@ most_below (k ∷ ks) bound h = (let here = h k (inl refl) in let rest = most_be
 -- ---- what each call tells fits
 
 abbrev pub Fitting : Module → Asked → Type 0
-Fitting m (Rise symbol hash counters counter amount) = (names_unit m (Global symbol) ≡ true) × (is_integer_of I64 hash ≡ true) × (is_counter_total counters ≡ true)
+Fitting m (Rise symbol hash counters counter amount) = (names_unit m (Global symbol) ≡ true) × (is_integer_of I64 hash ≡ true) × (is_counter_total counters ≡ true) × (is_integer_of I32 counter ≡ true)
 Fitting m (Note symbol hash target site) = (names_unit m (Global symbol) ≡ true) × (is_integer_of I64 hash ≡ true) × (nat_lt site 65536 ≡ true)
 
 module _ (m : Module) (formed : IsWellFormed m) (counted : kind_of m.functions ≡ Counted) where
   turn_fits : (f : Function) (x : Instr) (a : Asked) → Turn m formed counted f x → asked x ≡ Some a → Fitting m a
   turn_fits f x a (Stays none off) e = absurd (none-some a (sym none ∙ e))
   turn_fits f x a (Rises symbol hash counters counter amount r) e =
-      subst (λ (b : Asked). Fitting m b) (same_Some (Rise symbol hash counters counter amount) a (sym r.asks ∙ e)) (r.unit, r.hash_small, r.total)
+      subst (λ (b : Asked). Fitting m b) (same_Some (Rise symbol hash counters counter amount) a (sym r.asks ∙ e)) (r.unit, r.hash_small, r.total, r.counter_small)
   turn_fits f x a (Notes symbol hash target site r) e =
       subst (λ (b : Asked). Fitting m b) (same_Some (Note symbol hash target site) a (sym r.asks ∙ e)) (r.unit, r.hash_small, r.few)
 
-  asks_fit : (a : Asked) → Among a (all_asked m) → Fitting m a
+  pub asks_fit : (a : Asked) → Among a (all_asked m) → Fitting m a
   asks_fit a at =
       let f = flat_among (λ (f : Function). asked_in f.blocks) m.functions a at in
       let b = flat_among (λ (b : Block). filter_map asked b.instrs) f.0.blocks a f.2 in
       let x = among_made asked b.0.instrs a b.2 in
       turn_fits f.0 x.0 a (turn m formed counted f.0 x.0 (((formed.function f.0 f.1).block b.0 b.1).item x.0 x.1)) x.2
+
+total_within : (n : ℕ) → is_counter_total n ≡ true → n ≤ 1048576
+unfolding is_counter_total
+total_within n e = leb-true n 1048576 (and_parts (nat_le 1 n) (nat_le n 1048576) e).1
+
+-- so what it tells is small
+pub small : (m : Module) (a : Asked) → Fitting m a → IsSmallAsk a
+small m (Rise symbol hash counters counter amount) h = (total_within counters h.2, ltb-true counter 4294967296 h.3)
+small m (Note symbol hash target site) h = ltb-true site 65536 h.2
 
 -- an instruction's ask stands among all
 pub asks_among : (m : Module) (f : Function) (b : Block) (x : Instr) (a : Asked) → Among f m.functions → Among b f.blocks → Among x b.instrs → asked x ≡ Some a → Among a (all_asked m)

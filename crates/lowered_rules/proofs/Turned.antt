@@ -152,6 +152,7 @@ module _ (m : Module) (formed : IsWellFormed m) (counted : kind_of m.functions �
       pub unit : names_unit m (Global symbol) ≡ true
       pub hash_small : is_integer_of I64 hash ≡ true
       pub total : is_counter_total counters ≡ true
+      pub counter_small : is_integer_of I32 counter ≡ true
       pub fits : Fits m f true I64 amount
       pub read : (amount ≡ Int 1) ⊎ Among {X = Use} (I64, amount) (reads x)
       pub bare : result_of x ≡ None
@@ -177,24 +178,25 @@ module _ (m : Module) (formed : IsWellFormed m) (counted : kind_of m.functions �
 
       -- ---- an increment by one
 
-      increment_turn : (tu th tn tc : Ty) (u h n c : Operand) → is_increment name ≡ true → th ≡ I64 → names_unit m u ≡ true → is_literal h ≡ true → is_number is_counter_total n ≡ true → is_literal c ≡ true → Fits m f true th h → Turn (calls ((tu, u) ∷ (th, h) ∷ (tn, n) ∷ (tc, c) ∷ []))
-      increment_turn tu th tn tc (Int u) h n c e t a b d l fit = absurd (cc)
-      increment_turn tu th tn tc Null h n c e t a b d l fit = absurd (cc)
-      increment_turn tu th tn tc (Local u) h n c e t a b d l fit = absurd (cc)
-      increment_turn tu th tn tc (Global u) Null n c e t a b d l fit = absurd (cc)
-      increment_turn tu th tn tc (Global u) (Local h) n c e t a b d l fit = absurd (cc)
-      increment_turn tu th tn tc (Global u) (Global h) n c e t a b d l fit = absurd (cc)
-      increment_turn tu th tn tc (Global u) (Int h) Null c e t a b d l fit = absurd (cc)
-      increment_turn tu th tn tc (Global u) (Int h) (Local n) c e t a b d l fit = absurd (cc)
-      increment_turn tu th tn tc (Global u) (Int h) (Global n) c e t a b d l fit = absurd (cc)
-      increment_turn tu th tn tc (Global u) (Int h) (Int n) Null e t a b d l fit = absurd (cc)
-      increment_turn tu th tn tc (Global u) (Int h) (Int n) (Local c) e t a b d l fit = absurd (cc)
-      increment_turn tu th tn tc (Global u) (Int h) (Int n) (Global c) e t a b d l fit = absurd (cc)
-      increment_turn tu th tn tc (Global u) (Int h) (Int n) (Int c) e t a b d l fit = Rises u h n c (Int 1) (record {
+      increment_turn : (tu th tn tc : Ty) (u h n c : Operand) → is_increment name ≡ true → th ≡ I64 → tc ≡ I32 → names_unit m u ≡ true → is_literal h ≡ true → is_number is_counter_total n ≡ true → is_literal c ≡ true → Fits m f true th h → Fits m f true tc c → Turn (calls ((tu, u) ∷ (th, h) ∷ (tn, n) ∷ (tc, c) ∷ []))
+      increment_turn tu th tn tc (Int u) h n c e t o a b d l fit counting = absurd (cc)
+      increment_turn tu th tn tc Null h n c e t o a b d l fit counting = absurd (cc)
+      increment_turn tu th tn tc (Local u) h n c e t o a b d l fit counting = absurd (cc)
+      increment_turn tu th tn tc (Global u) Null n c e t o a b d l fit counting = absurd (cc)
+      increment_turn tu th tn tc (Global u) (Local h) n c e t o a b d l fit counting = absurd (cc)
+      increment_turn tu th tn tc (Global u) (Global h) n c e t o a b d l fit counting = absurd (cc)
+      increment_turn tu th tn tc (Global u) (Int h) Null c e t o a b d l fit counting = absurd (cc)
+      increment_turn tu th tn tc (Global u) (Int h) (Local n) c e t o a b d l fit counting = absurd (cc)
+      increment_turn tu th tn tc (Global u) (Int h) (Global n) c e t o a b d l fit counting = absurd (cc)
+      increment_turn tu th tn tc (Global u) (Int h) (Int n) Null e t o a b d l fit counting = absurd (cc)
+      increment_turn tu th tn tc (Global u) (Int h) (Int n) (Local c) e t o a b d l fit counting = absurd (cc)
+      increment_turn tu th tn tc (Global u) (Int h) (Int n) (Global c) e t o a b d l fit counting = absurd (cc)
+      increment_turn tu th tn tc (Global u) (Int h) (Int n) (Int c) e t o a b d l fit counting = Rises u h n c (Int 1) (record {
         asks = ap (λ (k : Bool). if k then Some (Rise u h n c (Int 1)) else None) (sym (increment_is name) ∙ e);
         unit = a;
         hash_small = ap (λ (k : Ty). is_integer_of k h) (sym t) ∙ fit;
         total = d;
+        counter_small = ap (λ (k : Ty). is_integer_of k c) (sym o) ∙ counting;
         fits = refl;
         read = inl refl;
         bare = refl;
@@ -202,24 +204,25 @@ module _ (m : Module) (formed : IsWellFormed m) (counted : kind_of m.functions �
 
       -- ---- an increment by an amount
 
-      step_turn : (tu th tn tc ta : Ty) (u h n c v : Operand) → is_increment_step name ≡ true → th ≡ I64 → ta ≡ I64 → names_unit m u ≡ true → is_literal h ≡ true → is_number is_counter_total n ≡ true → is_literal c ≡ true → Fits m f true th h → Fits m f true ta v → Turn (calls ((tu, u) ∷ (th, h) ∷ (tn, n) ∷ (tc, c) ∷ (ta, v) ∷ []))
-      step_turn tu th tn tc ta (Int u) h n c v e t q a b d l fit more = absurd (cc)
-      step_turn tu th tn tc ta Null h n c v e t q a b d l fit more = absurd (cc)
-      step_turn tu th tn tc ta (Local u) h n c v e t q a b d l fit more = absurd (cc)
-      step_turn tu th tn tc ta (Global u) Null n c v e t q a b d l fit more = absurd (cc)
-      step_turn tu th tn tc ta (Global u) (Local h) n c v e t q a b d l fit more = absurd (cc)
-      step_turn tu th tn tc ta (Global u) (Global h) n c v e t q a b d l fit more = absurd (cc)
-      step_turn tu th tn tc ta (Global u) (Int h) Null c v e t q a b d l fit more = absurd (cc)
-      step_turn tu th tn tc ta (Global u) (Int h) (Local n) c v e t q a b d l fit more = absurd (cc)
-      step_turn tu th tn tc ta (Global u) (Int h) (Global n) c v e t q a b d l fit more = absurd (cc)
-      step_turn tu th tn tc ta (Global u) (Int h) (Int n) Null v e t q a b d l fit more = absurd (cc)
-      step_turn tu th tn tc ta (Global u) (Int h) (Int n) (Local c) v e t q a b d l fit more = absurd (cc)
-      step_turn tu th tn tc ta (Global u) (Int h) (Int n) (Global c) v e t q a b d l fit more = absurd (cc)
-      step_turn tu th tn tc ta (Global u) (Int h) (Int n) (Int c) v e t q a b d l fit more = Rises u h n c v (record {
+      step_turn : (tu th tn tc ta : Ty) (u h n c v : Operand) → is_increment_step name ≡ true → th ≡ I64 → tc ≡ I32 → ta ≡ I64 → names_unit m u ≡ true → is_literal h ≡ true → is_number is_counter_total n ≡ true → is_literal c ≡ true → Fits m f true th h → Fits m f true tc c → Fits m f true ta v → Turn (calls ((tu, u) ∷ (th, h) ∷ (tn, n) ∷ (tc, c) ∷ (ta, v) ∷ []))
+      step_turn tu th tn tc ta (Int u) h n c v e t o q a b d l fit counting more = absurd (cc)
+      step_turn tu th tn tc ta Null h n c v e t o q a b d l fit counting more = absurd (cc)
+      step_turn tu th tn tc ta (Local u) h n c v e t o q a b d l fit counting more = absurd (cc)
+      step_turn tu th tn tc ta (Global u) Null n c v e t o q a b d l fit counting more = absurd (cc)
+      step_turn tu th tn tc ta (Global u) (Local h) n c v e t o q a b d l fit counting more = absurd (cc)
+      step_turn tu th tn tc ta (Global u) (Global h) n c v e t o q a b d l fit counting more = absurd (cc)
+      step_turn tu th tn tc ta (Global u) (Int h) Null c v e t o q a b d l fit counting more = absurd (cc)
+      step_turn tu th tn tc ta (Global u) (Int h) (Local n) c v e t o q a b d l fit counting more = absurd (cc)
+      step_turn tu th tn tc ta (Global u) (Int h) (Global n) c v e t o q a b d l fit counting more = absurd (cc)
+      step_turn tu th tn tc ta (Global u) (Int h) (Int n) Null v e t o q a b d l fit counting more = absurd (cc)
+      step_turn tu th tn tc ta (Global u) (Int h) (Int n) (Local c) v e t o q a b d l fit counting more = absurd (cc)
+      step_turn tu th tn tc ta (Global u) (Int h) (Int n) (Global c) v e t o q a b d l fit counting more = absurd (cc)
+      step_turn tu th tn tc ta (Global u) (Int h) (Int n) (Int c) v e t o q a b d l fit counting more = Rises u h n c v (record {
         asks = ap (λ (k : Bool). if k then Some (Rise u h n c v) else (if same value_name name then note (Global u) (Int h) (Int n) v else None)) (sym (step_is name) ∙ e);
         unit = a;
         hash_small = ap (λ (k : Ty). is_integer_of k h) (sym t) ∙ fit;
         total = d;
+        counter_small = ap (λ (k : Ty). is_integer_of k c) (sym o) ∙ counting;
         fits = subst (λ (k : Ty). Fits m f true k v) q more;
         read = inr (inr (inr (inr (inr (inr (inl (λ i. (sym q i, v))))))));
         bare = refl;
@@ -260,8 +263,10 @@ module _ (m : Module) (formed : IsWellFormed m) (counted : kind_of m.functions �
           let second = and_parts (is_literal b.1) (is_number is_counter_total c.1 && is_literal d.1) first.1 in
           let third = and_parts (is_number is_counter_total c.1) (is_literal d.1) second.1 in
           let rest = (and_parts (same_ty Ptr a.0) (same_tys (I64 ∷ I32 ∷ I32 ∷ []) (b.0 ∷ c.0 ∷ d.0 ∷ [])) t).1 in
-          let wide = ty_is I64 b.0 (and_parts (same_ty I64 b.0) (same_tys (I32 ∷ I32 ∷ []) (c.0 ∷ d.0 ∷ [])) rest).0 in
-          increment_turn a.0 b.0 c.0 d.0 a.1 b.1 c.1 d.1 e wide first.0 second.0 third.0 third.1 (fit b (inr (inl refl)))
+          let wide = and_parts (same_ty I64 b.0) (same_tys (I32 ∷ I32 ∷ []) (c.0 ∷ d.0 ∷ [])) rest in
+          let more = (and_parts (same_ty I32 c.0) (same_tys (I32 ∷ []) (d.0 ∷ [])) wide.1).1 in
+          let counter = (and_parts (same_ty I32 d.0) true more).0 in
+          increment_turn a.0 b.0 c.0 d.0 a.1 b.1 c.1 d.1 e (ty_is I64 b.0 wide.0) (ty_is I32 d.0 counter) first.0 second.0 third.0 third.1 (fit b (inr (inl refl))) (fit d (inr (inr (inr (inl refl)))))
       increment_called (a ∷ b ∷ c ∷ d ∷ g ∷ more) e t p fit = absurd (omega (arith, as_long increment_types (a.0 ∷ b.0 ∷ c.0 ∷ d.0 ∷ g.0 ∷ arg_types more) t))
 
       step_called : (args : List Use) → is_increment_step name ≡ true → same_tys step_types (arg_types args) ≡ true → names_place m name args ≡ true → AllFit m f true args → Turn (calls args)
@@ -278,9 +283,9 @@ module _ (m : Module) (formed : IsWellFormed m) (counted : kind_of m.functions �
           let rest = (and_parts (same_ty Ptr a.0) (same_tys (I64 ∷ I32 ∷ I32 ∷ I64 ∷ []) (b.0 ∷ c.0 ∷ d.0 ∷ g.0 ∷ [])) t).1 in
           let wide = and_parts (same_ty I64 b.0) (same_tys (I32 ∷ I32 ∷ I64 ∷ []) (c.0 ∷ d.0 ∷ g.0 ∷ [])) rest in
           let more = (and_parts (same_ty I32 c.0) (same_tys (I32 ∷ I64 ∷ []) (d.0 ∷ g.0 ∷ [])) wide.1).1 in
-          let last = (and_parts (same_ty I32 d.0) (same_tys (I64 ∷ []) (g.0 ∷ [])) more).1 in
-          let amount = (and_parts (same_ty I64 g.0) true last).0 in
-          step_turn a.0 b.0 c.0 d.0 g.0 a.1 b.1 c.1 d.1 g.1 e (ty_is I64 b.0 wide.0) (ty_is I64 g.0 amount) first.0 second.0 third.0 third.1 (fit b (inr (inl refl))) (fit g (inr (inr (inr (inr (inl refl))))))
+          let last = and_parts (same_ty I32 d.0) (same_tys (I64 ∷ []) (g.0 ∷ [])) more in
+          let amount = (and_parts (same_ty I64 g.0) true last.1).0 in
+          step_turn a.0 b.0 c.0 d.0 g.0 a.1 b.1 c.1 d.1 g.1 e (ty_is I64 b.0 wide.0) (ty_is I32 d.0 last.0) (ty_is I64 g.0 amount) first.0 second.0 third.0 third.1 (fit b (inr (inl refl))) (fit d (inr (inr (inr (inl refl))))) (fit g (inr (inr (inr (inr (inl refl))))))
       step_called (a ∷ b ∷ c ∷ d ∷ g ∷ h ∷ more) e t p fit = absurd (omega (arith, as_long step_types (a.0 ∷ b.0 ∷ c.0 ∷ d.0 ∷ g.0 ∷ h.0 ∷ arg_types more) t))
 
       value_called : (args : List Use) → is_value_note name ≡ true → same_tys value_types (arg_types args) ≡ true → names_place m name args ≡ true → AllFit m f true args → Turn (calls args)

@@ -1,6 +1,6 @@
 // What holds of every lowered module, the clauses of functions that do nothing.
 ghost use Rattle.lowered_rules.specs.Kept.{FunctionsStayFormed, GlobalsStayFormed, IsLoweredKind, RuntimeIsFormed, SymbolsStayApart, TextsStayApart, UnitsAreTold};
-ghost use Rattle.lowered_rules.specs.Small.{FunctionsStaySmall};
+ghost use Rattle.lowered_rules.specs.Small.{AsksAreSmall, FunctionsStaySmall};
 
 /// The lowered module is of the kind of modules with counters, whatever the module.
 pub fn kind_is_lowered()
@@ -32,4 +32,10 @@ pub fn globals_stay_formed()
 /// A lowered function has the same edges, and no result, call through a register or array type more.
 pub fn functions_stay_small()
     ensures { FunctionsStaySmall }
+{}
+
+/// What the calls of a module that counts ask is small: each tells as many counters as a unit may have, a counter of 32 bits, and one of
+/// few sites.
+pub fn asks_are_small()
+    ensures { AsksAreSmall }
 {}
