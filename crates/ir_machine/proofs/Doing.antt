@@ -1,7 +1,7 @@
 -- What a machine does where a part of it did something.
 use Rattle.std.proofs.Common.{◌≡◌, ℕ, zero, suc, ◌+◌, ◌≤◌, arith, List, [], ◌∷◌, length, map, Option, None, refl, sym, ◌∙◌, ap, subst}
 use Rattle.std.proofs.lemmas.List.{append-nil}
-use Rattle.std.specs.Prelude.{reverse, slice_get, Result, Ok, Err, IfOk, OnErr}
+use Rattle.std.specs.Prelude.{reverse, slice_get, Result, Ok, Err, IfOk, IfSome, Some, OnErr}
 use Rattle.ir_tree.specs.declared.types.Ty.{Ty}
 use Rattle.ir_memory.specs.declared.value.Value.{Value}
 use Rattle.ir_model.specs.Deed.{Takes, behind_default}
@@ -20,6 +20,11 @@ use Rattle.ir_machine.specs.Steps.{CodeDeed, CodeState, Comes, Does, DoesAlone, 
 pub on_err : {T E : Type 0} (X : Type 0) (r : Result T E) → X → OnErr r X
 on_err X (Ok t) x = tt
 on_err X (Err e) x = x
+
+-- what holds of the turn that an answer stands for
+pub turn_is : {E : Type 0} (P : Turn → Type 0) (o : Option Turn) (r : Result Turn E) → IfSome o P → IfOk r (λ t. o ≡ Some t) → IfOk r P
+turn_is P o (Ok t) h e = subst (λ x. IfSome x P) e h
+turn_is P o (Err x) h e = tt
 
 module _ (code : List FunctionCode) (m n : Machine) (d e : CodeDeed) (same : d ≡ e) where
   -- a deed that is another one

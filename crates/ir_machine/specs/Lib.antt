@@ -1,3 +1,4 @@
 pub mod Steps
 pub mod Slots
 pub mod Counts
+pub mod Turns

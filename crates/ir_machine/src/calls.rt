@@ -1,16 +1,19 @@
 // Calls: by address and signature, into a defined function or to do the work of a declared one.
-ghost use Rattle.std.specs.Prelude.{◌≡◌, ◌<◌, ◌^◌, List, ◌∷◌, map, Some, None, length, nat_lt, IfOk, OnOk};
+ghost use Rattle.std.specs.Prelude.{◌≡◌, ◌<◌, ◌^◌, List, ◌∷◌, map, Some, None, length, nat_lt, replicate, IfOk, IfSome, OnOk};
 ghost use Rattle.ir_tree.specs.declared.types.Ty.TheVariants.{I64};
 ghost use Rattle.ir_memory.specs.declared.value.Value.{Value};
 ghost use Rattle.ir_memory.specs.declared.value.Value.TheVariants as value;
 ghost use Rattle.ir_model.specs.Step as model;
 ghost use Rattle.ir_model.specs.Step.{line_of};
 ghost use Rattle.ir_model.specs.Values as values;
+ghost use Rattle.ir_machine.specs.declared.state.Sight.TheVariants as sight;
+ghost use Rattle.ir_machine.specs.declared.state.Turn.TheVariants as turn;
+ghost use Rattle.ir_machine.specs.Turns.{turn_of};
 ghost use Rattle.ir_machine.specs.Steps as spec;
 ghost use Rattle.ir_machine.specs.Steps.{input_value, noted_at, valued, Comes, Does, DoesAlone, Prints, waiting_of};
 
-use crate::registers::{number_of, value_of};
-use crate::state::{Frame, Machine, Sight, Turn};
+use crate::registers::{assign, number_of, typed_value_of, value_of};
+use crate::state::{Answer, Frame, Machine, Sight, Turn};
 use ir_code::{FunctionCode, Input, Span, Target, Work, as_number, at_type};
 use ir_memory::Value;
 use ir_model::TrapKind;
@@ -55,21 +58,6 @@ fn is_same_ret(left: Ret, right: Ret) -> bool
     }
 }
 
-/// The values of arguments in order, in place of what `values` held.
-fn read_args(
-    registers: &[Value],
-    args: &[(Ty, Input)],
-    values: &mut Vec<Value>,
-) -> Result<(), NoMemory>
-    ensures { OnOk result (values.new.items ≡ map (λ a. input_value registers.now a.1) args.now) }
-{
-    values.clear();
-    for (_, input) in args {
-        values.push(value_of(registers, input))?;
-    }
-    Ok(())
-}
-
 /// Whether arguments have the types of parameters.
 fn fit_params(params: &[Ty], args: &[(Ty, Input)]) -> bool
     ensures { (regs : List Value) → result ≡ spec.fits_params params.now (map (valued regs) args.now) }
@@ -87,7 +75,6 @@ fn fit_params(params: &[Ty], args: &[(Ty, Input)]) -> bool
 
 /// The registers of a function that begins: its parameters with these values, and the others 0. They take the place of
 /// `spare`.
-#[inline(always)]
 pub fn first_registers(
     spare: Seq<Value>,
     function: &FunctionCode,
@@ -103,6 +90,55 @@ pub fn first_registers(
         }
     }
     registers.resize(function.registers, Value::Int(0))?;
+    Ok(Seq::of(registers))
+}
+
+/// Makes registers 0, as many as these. Where there are as many already, which is so where a loop calls one function, their
+/// length is not written, since what is written is not to be read at once in a wider piece.
+#[inline(always)]
+fn clear_registers(registers: &mut Vec<Value>, count: usize) -> Result<(), NoMemory>
+    ensures { OnOk result (registers.new.items ≡ replicate count (value.Int 0)) }
+{
+    if registers.len() == count {
+        registers.as_mut_slice().fill(Value::Int(0));
+        return Ok(());
+    }
+    registers.clear();
+    registers.resize(count, Value::Int(0))?;
+    Ok(())
+}
+
+/// Puts the values of arguments into the registers of parameters. `caller` has the registers of the function that calls.
+#[inline(always)]
+fn put_arguments(
+    registers: &mut [Value],
+    function: &FunctionCode,
+    caller: &[Value],
+    args: &[(Ty, Input)],
+)
+    requires { registers.old ≡ replicate function.now.registers (value.Int 0) }
+    ensures { registers.new ≡ spec.first_registers function.now (map (λ a. input_value caller.now a.1) args.now) }
+{
+    for (i, ty) in function.params.as_slice().iter().enumerate() {
+        if let Some(arg) = args.get(i) {
+            assign(registers, i, typed_value_of(caller, *ty, &arg.1));
+        }
+    }
+}
+
+/// The registers of a function that is called. They take the place of `spare`.
+#[inline(always)]
+fn called_registers(
+    spare: Seq<Value>,
+    function: &FunctionCode,
+    caller: &[Value],
+    args: &[(Ty, Input)],
+) -> Result<Seq<Value>, NoMemory>
+    ensures { IfOk result (λ r. r ≡ spec.first_registers function.now (map (λ a. input_value caller.now a.1) args.now)) }
+{
+    let mut registers = spare.take();
+    clear_registers(&mut registers, function.registers)?;
+    put_arguments(registers.as_mut_slice(), function, caller, args);
     Ok(Seq::of(registers))
 }
 
@@ -122,36 +158,37 @@ fn print_line(printed: &mut Vec<u8>, value: u64) -> Result<bool, NoMemory>
 }
 
 /// Prints a number and a line feed, or stops where that is too much.
-fn print(machine: &mut Machine, value: u64) -> Result<Turn, NoMemory>
-    ensures { IfOk result (λ turn. Comes machine.old (λ fr rest sh. spec.prints fr rest sh (line_of value)) turn machine.new) }
+fn print(machine: &mut Machine, value: u64) -> Answer
+    ensures { IfSome (turn_of machine.new result) (λ turn. Comes machine.old (λ fr rest sh. spec.prints fr rest sh (line_of value)) turn machine.new) }
 {
-    if print_line(&mut machine.printed, value)? {
-        return Ok(Turn::Goes);
+    match print_line(&mut machine.printed, value) {
+        Ok(true) => Answer::Goes,
+        Ok(false) => Answer::Fails(TrapKind::Output),
+        Err(_) => Answer::NoMemory,
     }
-    Ok(Turn::Traps(TrapKind::Output))
 }
 
 /// Prints the first argument.
-fn print_first(machine: &mut Machine, args: &[(Ty, Input)]) -> Result<Turn, NoMemory>
-    ensures { IfOk result (λ turn. Comes machine.old (λ fr rest sh. spec.prints_first fr rest sh (map (valued machine.old.top.registers) args.now)) turn machine.new) }
+fn print_first(machine: &mut Machine, args: &[(Ty, Input)]) -> Answer
+    ensures { IfSome (turn_of machine.new result) (λ turn. Comes machine.old (λ fr rest sh. spec.prints_first fr rest sh (map (valued machine.old.top.registers) args.now)) turn machine.new) }
 {
     match args.first() {
         Some((_, input)) => {
             let number = number_of(machine.top.registers.as_slice(), Ty::I64, input);
             print(machine, number)
         }
-        None => Ok(Turn::Traps(TrapKind::External)),
+        None => Answer::Fails(TrapKind::External),
     }
 }
 
 /// The work of a declared function.
-fn do_work(machine: &mut Machine, work: Work, args: &[(Ty, Input)]) -> Result<Turn, NoMemory>
-    ensures { IfOk result (λ turn. Comes machine.old (λ fr rest sh. spec.declared fr rest sh work (map (valued machine.old.top.registers) args.now)) turn machine.new) }
+fn do_work(machine: &mut Machine, work: Work, args: &[(Ty, Input)]) -> Answer
+    ensures { IfSome (turn_of machine.new result) (λ turn. Comes machine.old (λ fr rest sh. spec.declared fr rest sh work (map (valued machine.old.top.registers) args.now)) turn machine.new) }
 {
     match work {
         Work::Print => print_first(machine, args),
-        Work::Nothing => Ok(Turn::Goes),
-        Work::External => Ok(Turn::Traps(TrapKind::External)),
+        Work::Nothing => Answer::Goes,
+        Work::External => Answer::Fails(TrapKind::External),
     }
 }
 
@@ -166,10 +203,9 @@ fn first_frame(
     ensures frame { IfOk result (λ frame. frame ≡ spec.first_frame number function.now (map (λ a. input_value machine.old.top.registers a.1) args.now) machine.old.memory.next into) }
     ensures rest { (machine.new.top ≡ machine.old.top) × (machine.new.callers ≡ machine.old.callers) × (machine.new.memory ≡ machine.old.memory) × (machine.new.printed ≡ machine.old.printed) }
 {
-    read_args(machine.top.registers.as_slice(), args, &mut machine.moved)?;
     let alloc = *machine.callers.allocator();
     let spare = mem::replace(&mut machine.spare, Seq::new(alloc));
-    let registers = first_registers(spare, function, machine.moved.as_slice())?;
+    let registers = called_registers(spare, function, machine.top.registers.as_slice(), args)?;
     Ok(Frame {
         function: number,
         block: 0,
@@ -192,18 +228,20 @@ fn push(machine: &mut Machine, frame: Frame) -> Result<(), NoMemory>
 }
 
 /// A function begins with these arguments.
+#[inline(always)]
 fn begin(
     machine: &mut Machine,
     into: Option<Target>,
     number: usize,
     function: &FunctionCode,
     args: &[(Ty, Input)],
-) -> Result<Turn, NoMemory>
-    ensures { IfOk result (λ turn. Comes machine.old (λ fr rest sh. spec.enters fr rest sh into number function.now (map (λ v. v.1) (map (valued machine.old.top.registers) args.now))) turn machine.new) }
+) -> Result<(), NoMemory>
+    ensures steps { OnOk result (Comes machine.old (λ fr rest sh. spec.enters fr rest sh into number function.now (map (λ v. v.1) (map (valued machine.old.top.registers) args.now))) (turn.Sees (sight.Entered number)) machine.new) }
+    ensures number { OnOk result (machine.new.top.function ≡ number) }
 {
     let frame = first_frame(machine, into, number, function, args)?;
     push(machine, frame)?;
-    Ok(Turn::Sees(Sight::Entered { function: number }))
+    Ok(())
 }
 
 /// Whether one more function may run.
@@ -220,16 +258,19 @@ fn enter(
     number: usize,
     function: &FunctionCode,
     args: &[(Ty, Input)],
-) -> Result<Turn, NoMemory>
-    ensures { IfOk result (λ turn. Comes machine.old (λ fr rest sh. spec.entered fr rest sh into number function.now (map (valued machine.old.top.registers) args.now) function.now.blocks) turn machine.new) }
+) -> Answer
+    ensures { IfSome (turn_of machine.new result) (λ turn. Comes machine.old (λ fr rest sh. spec.entered fr rest sh into number function.now (map (valued machine.old.top.registers) args.now) function.now.blocks) turn machine.new) }
 {
     if function.blocks.is_empty() {
         return do_work(machine, function.work, args);
     }
     if !has_room(machine) {
-        return Ok(Turn::Traps(TrapKind::Depth));
+        return Answer::Fails(TrapKind::Depth);
     }
-    begin(machine, into, number, function, args)
+    match begin(machine, into, number, function, args) {
+        Ok(()) => Answer::Enters,
+        Err(_) => Answer::NoMemory,
+    }
 }
 
 /// A call of a function, which traps where the signature differs.
@@ -240,12 +281,12 @@ fn call_function(
     number: usize,
     function: &FunctionCode,
     args: &[(Ty, Input)],
-) -> Result<Turn, NoMemory>
-    ensures { IfOk result (λ turn. Comes machine.old (λ fr rest sh. spec.called fr rest sh into ret (map (valued machine.old.top.registers) args.now) number (Some function.now)) turn machine.new) }
+) -> Answer
+    ensures { IfSome (turn_of machine.new result) (λ turn. Comes machine.old (λ fr rest sh. spec.called fr rest sh into ret (map (valued machine.old.top.registers) args.now) number (Some function.now)) turn machine.new) }
 {
     let fits = is_same_ret(function.ret, ret) && fit_params(function.params.as_slice(), args);
     if !fits {
-        return Ok(Turn::Traps(TrapKind::Callee));
+        return Answer::Fails(TrapKind::Callee);
     }
     enter(machine, into, number, function, args)
 }
@@ -255,20 +296,20 @@ fn call_function(
 pub fn call(
     functions: &[FunctionCode],
     machine: &mut Machine,
-    into: Option<Target>,
+    into: &Option<Target>,
     ret: Ret,
     callee: &Input,
     args: &[(Ty, Input)],
-) -> Result<Turn, NoMemory>
-    ensures { IfOk result (λ turn. Does functions.now machine.old (spec.Calls into ret (values.as_number (input_value machine.old.top.registers callee.now)) (map (valued machine.old.top.registers) args.now)) turn machine.new) }
+) -> Answer
+    ensures { IfSome (turn_of machine.new result) (λ turn. Does functions.now machine.old (spec.Calls into.now ret (values.as_number (input_value machine.old.top.registers callee.now)) (map (valued machine.old.top.registers) args.now)) turn machine.new) }
 {
     let address = as_number(value_of(machine.top.registers.as_slice(), callee));
     let Some(number) = function_at(functions.len(), address) else {
-        return Ok(Turn::Traps(TrapKind::Callee));
+        return Answer::Fails(TrapKind::Callee);
     };
     match functions.get(number) {
-        Some(function) => call_function(machine, into, ret, number, function, args),
-        None => Ok(Turn::Traps(TrapKind::Callee)),
+        Some(function) => call_function(machine, *into, ret, number, function, args),
+        None => Answer::Fails(TrapKind::Callee),
     }
 }
 

@@ -1,5 +1,5 @@
 // Operations other than calls: each gives a value or is seen, or it traps.
-ghost use Rattle.std.specs.Prelude.{◌≡◌, ◌<◌, ◌^◌, ◌==◌, pos, ◌+ℤ◌, Some, None, [], if◌then◌else◌, length, IfOk};
+ghost use Rattle.std.specs.Prelude.{◌≡◌, ◌<◌, ◌^◌, ◌==◌, pos, ◌+ℤ◌, Some, None, [], if◌then◌else◌, length, IfOk, IfSome};
 ghost use Rattle.ir_tree.specs.Types.{is_pointer_type};
 ghost use Rattle.ir_tree.specs.declared.types.Ty.TheVariants.{I1, I64};
 ghost use Rattle.ir_value.specs.Integer.{IsWidth, wrapped, signed_of};
@@ -10,10 +10,12 @@ ghost use Rattle.ir_model.specs.Deed as model;
 ghost use Rattle.ir_model.specs.Sizes as sizes;
 ghost use Rattle.ir_model.specs.Values as values;
 ghost use Rattle.ir_code.specs.Units.{added};
+ghost use Rattle.ir_machine.specs.Turns.{turn_of};
+ghost use Rattle.ir_machine.specs.declared.state.Turn.TheVariants as turn;
 ghost use Rattle.ir_machine.specs.Steps.{input_value, distance, noted_at, Gives, computed, allocated, read_as, wrote, DoesAlone};
 
 use crate::registers::{assign, number_of, typed_value_of, value_of};
-use crate::state::{Machine, Sight, Turn};
+use crate::state::{Answer, Machine, Sight, Turn};
 use ir_code::{
     Input, Scaled, Span, as_number, at_type, base_of, bits_of, bytes_of, is_pointer, offset_of,
 };
@@ -40,12 +42,20 @@ fn number_in(machine: &Machine, ty: Ty, input: &Input) -> u64
     number_of(machine.top.registers.as_slice(), ty, input)
 }
 
+/// Puts a value into a register.
+#[inline(always)]
+fn put(machine: &mut Machine, into: usize, value: Value)
+    ensures { DoesAlone machine.old (Gives (Some into) value machine.old.memory []) turn.Goes machine.new }
+{
+    assign(machine.top.registers.as_mut_slice(), into, value);
+}
+
 /// Goes on with a value in a register.
 #[inline(always)]
 pub fn give(machine: &mut Machine, into: usize, value: Value) -> Turn
     ensures { DoesAlone machine.old (Gives (Some into) value machine.old.memory []) result machine.new }
 {
-    assign(machine.top.registers.as_mut_slice(), into, value);
+    put(machine, into, value);
     Turn::Goes
 }
 
@@ -210,8 +220,8 @@ fn trap_of(error: MemError) -> TrapKind
 
 /// A load.
 #[inline(never)]
-pub fn load(machine: &mut Machine, into: usize, ty: Ty, address: &Input) -> Turn
-    ensures { DoesAlone machine.old (read_as into machine.old.memory ty (loaded machine.old.memory (values.base_of (input_value machine.old.top.registers address.now)) (values.offset_of (input_value machine.old.top.registers address.now)) (sizes.bytes_of ty) (is_pointer_type ty))) result machine.new }
+pub fn load(machine: &mut Machine, into: usize, ty: Ty, address: &Input) -> Answer
+    ensures { IfSome (turn_of machine.new result) (λ turn. DoesAlone machine.old (read_as into machine.old.memory ty (loaded machine.old.memory (values.base_of (input_value machine.old.top.registers address.now)) (values.offset_of (input_value machine.old.top.registers address.now)) (sizes.bytes_of ty) (is_pointer_type ty))) turn machine.new) }
 {
     let address = value_in(machine, address);
     let loaded = machine.memory.load(
@@ -221,15 +231,18 @@ pub fn load(machine: &mut Machine, into: usize, ty: Ty, address: &Input) -> Turn
         is_pointer(ty),
     );
     match loaded {
-        Ok(value) => give(machine, into, at_type(ty, value)),
-        Err(error) => Turn::Traps(trap_of(error)),
+        Ok(value) => {
+            put(machine, into, at_type(ty, value));
+            Answer::Goes
+        }
+        Err(error) => Answer::Fails(trap_of(error)),
     }
 }
 
 /// A store.
 #[inline(never)]
-pub fn store(machine: &mut Machine, ty: Ty, input: &Input, address: &Input) -> Turn
-    ensures { DoesAlone machine.old (wrote (stored machine.old.memory (values.base_of (input_value machine.old.top.registers address.now)) (values.offset_of (input_value machine.old.top.registers address.now)) (sizes.bytes_of ty) (values.at_type ty (input_value machine.old.top.registers input.now)))) result machine.new }
+pub fn store(machine: &mut Machine, ty: Ty, input: &Input, address: &Input) -> Answer
+    ensures { IfSome (turn_of machine.new result) (λ turn. DoesAlone machine.old (wrote (stored machine.old.memory (values.base_of (input_value machine.old.top.registers address.now)) (values.offset_of (input_value machine.old.top.registers address.now)) (sizes.bytes_of ty) (values.at_type ty (input_value machine.old.top.registers input.now)))) turn machine.new) }
 {
     let address = value_in(machine, address);
     let value = typed_value_of(machine.top.registers.as_slice(), ty, input);
@@ -237,8 +250,8 @@ pub fn store(machine: &mut Machine, ty: Ty, input: &Input, address: &Input) -> T
         .memory
         .store(base_of(address), offset_of(address), bytes_of(ty), value);
     match stored {
-        Ok(()) => Turn::Goes,
-        Err(error) => Turn::Traps(trap_of(error)),
+        Ok(()) => Answer::Goes,
+        Err(error) => Answer::Fails(trap_of(error)),
     }
 }
 

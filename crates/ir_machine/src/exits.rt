@@ -1,11 +1,13 @@
 // Leaving a block: by an edge, or by a return.
-ghost use Rattle.std.specs.Prelude.{◌≡◌, ◌==◌, Some, position, slice_get, IfOk};
+ghost use Rattle.std.specs.Prelude.{◌≡◌, ◌==◌, Some, position, slice_get, IfOk, true, false};
 ghost use Rattle.std.specs.Option.{option_map};
 ghost use Rattle.ir_model.specs.Deed.{Takes, Leaves, behind_default};
 ghost use Rattle.ir_model.specs.Values as values;
 ghost use Rattle.ir_machine.specs.Steps as spec;
 ghost use Rattle.ir_machine.specs.Steps.{input_value, Comes};
 ghost use Rattle.ir_machine.specs.declared.state.Sight.TheVariants as sight;
+ghost use Rattle.ir_machine.specs.declared.state.Turn.TheVariants as turn;
+ghost use Rattle.ir_machine.specs.Turns.{returned_value};
 
 use crate::registers::{assign_target, move_all, number_of, typed_value_of};
 use crate::state::{Machine, Sight, Turn};
@@ -77,34 +79,68 @@ fn returned_number(value: Option<Value>) -> Option<u64>
     }
 }
 
-/// Returns from the function: its objects end, and the one that waits goes on.
+/// Returns to the function that waits: the objects of the one that ran end. Answers whether there was one that waits.
 #[tactic(auto, using(crate::proofs::Stacks::reverse_push))]
-fn give_back(machine: &mut Machine, value: Option<Value>) -> Turn
-    ensures { Comes machine.old (λ fr rest sh. spec.returned fr rest sh value) result machine.new }
+#[inline(always)]
+fn give_back(machine: &mut Machine, value: Option<Value>) -> bool
+    ensures goes_on { result ≡ true → Comes machine.old (λ fr rest sh. spec.returned fr rest sh value) (turn.Sees (sight.Left machine.old.top.function machine.old.top.block 0)) machine.new }
+    ensures ends { result ≡ false → Comes machine.old (λ fr rest sh. spec.returned fr rest sh value) (turn.Returns (sight.Left machine.old.top.function machine.old.top.block 0) (option_map values.as_number value)) machine.new }
+    ensures stays { result ≡ false → machine.new.top ≡ machine.old.top }
 {
-    let sight = sight_of(machine, 0);
     match machine.callers.pop() {
         Some(caller) => {
             let ended = mem::replace(&mut machine.top, caller);
             machine.memory.drop_from(ended.base);
             take_result(machine, ended.into, value);
             machine.spare = ended.registers;
-            Turn::Sees(sight)
+            true
         }
-        None => Turn::Returns {
-            sight,
-            value: returned_number(value),
-        },
+        None => false,
     }
 }
 
 /// The value that a return gives.
+#[inline(always)]
 fn returned(registers: &[Value], value: Option<(Ty, Input)>) -> Option<Value>
-    ensures { result ≡ option_map (λ u. values.at_type u.0 (input_value registers.now u.1)) value }
+    ensures { result ≡ returned_value registers.now value }
 {
     match value {
         Some((ty, input)) => Some(typed_value_of(registers, ty, &input)),
         None => None,
+    }
+}
+
+/// Returns as `give_back` does, with the value that a return gives.
+#[inline(never)]
+fn give_back_returned(machine: &mut Machine, value: &Option<(Ty, Input)>) -> bool
+    ensures goes_on { result ≡ true → Comes machine.old (λ fr rest sh. spec.returned fr rest sh (returned_value machine.old.top.registers value.now)) (turn.Sees (sight.Left machine.old.top.function machine.old.top.block 0)) machine.new }
+    ensures ends { result ≡ false → Comes machine.old (λ fr rest sh. spec.returned fr rest sh (returned_value machine.old.top.registers value.now)) (turn.Returns (sight.Left machine.old.top.function machine.old.top.block 0) (option_map values.as_number (returned_value machine.old.top.registers value.now))) machine.new }
+    ensures stays { result ≡ false → machine.new.top ≡ machine.old.top }
+{
+    let value = returned(machine.top.registers.as_slice(), *value);
+    give_back(machine, value)
+}
+
+/// The value of the call from outside.
+#[inline(never)]
+fn last_value(machine: &Machine, value: &Option<(Ty, Input)>) -> Option<u64>
+    ensures { result ≡ option_map values.as_number (returned_value machine.now.top.registers value.now) }
+{
+    returned_number(returned(machine.top.registers.as_slice(), *value))
+}
+
+/// Returns from the function: its objects end, and the one that waits goes on.
+#[inline(always)]
+fn return_apart(machine: &mut Machine, value: &Option<(Ty, Input)>) -> Turn
+    ensures { Comes machine.old (λ fr rest sh. spec.returned fr rest sh (returned_value machine.old.top.registers value.now)) result machine.new }
+{
+    let sight = sight_of(machine, 0);
+    if give_back_returned(machine, value) {
+        return Turn::Sees(sight);
+    }
+    Turn::Returns {
+        sight,
+        value: last_value(machine, value),
     }
 }
 
@@ -155,10 +191,7 @@ fn leave_any(machine: &mut Machine, edges: &[EdgeCode], exit: &Exit) -> Result<T
             walk(machine, edges, if cond == 0 { 1 } else { 0 })
         }
         Exit::Switch { ty, value, cases } => switch(machine, edges, *ty, value, cases),
-        Exit::Return { value } => {
-            let value = returned(registers, *value);
-            Ok(give_back(machine, value))
-        }
+        Exit::Return { value } => Ok(return_apart(machine, value)),
         Exit::Unreachable => Ok(Turn::Traps(TrapKind::Unreachable)),
     }
 }
@@ -183,6 +216,7 @@ pub fn leave(machine: &mut Machine, edges: &[EdgeCode], exit: &Exit) -> Result<T
             let cond = number_of(machine.top.registers.as_slice(), Ty::I1, cond);
             walk(machine, edges, if cond == 0 { 1 } else { 0 })
         }
+        Exit::Return { value } => Ok(return_apart(machine, value)),
         _ => leave_apart(machine, edges, exit),
     }
 }

@@ -1,6 +1,7 @@
 //! The evaluator: the run of a call on the code of a module.
 #![tactic(auto)]
 
+mod answers;
 mod calls;
 mod deeds;
 mod exits;

@@ -62,15 +62,15 @@ impl<'a> Code<'a> {
         self.tallies.as_slice()
     }
 
-    /// How many counters all units have.
-    pub(crate) fn counters(&self) -> u32
+    /// How many counters the tallies have in all, which is how many a probe of `run_call` needs.
+    pub fn counters(&self) -> u32
         ensures { result ≡ counters_of_all (tallies_of self.now) }
     {
         self.counters
     }
 
-    /// How many sites all units have.
-    pub(crate) fn sites(&self) -> u32
+    /// How many sites the tallies have in all, which is how many a probe of `run_call` needs.
+    pub fn sites(&self) -> u32
         ensures { result ≡ sites_of_all (tallies_of self.now) }
     {
         self.sites

@@ -51,6 +51,16 @@ pub enum Sight {
     },
 }
 
+/// What an operation that the loop over the steps asks a function for comes to: the run goes on, or a function was entered, or
+/// it traps, or there was no memory. It fits registers, where a turn goes through memory.
+#[derive(Clone, Copy, Debug)]
+pub enum Answer {
+    Goes,
+    Enters,
+    Fails(TrapKind),
+    NoMemory,
+}
+
 /// What a step comes to: it goes on, it goes on and is seen, the call returns, or it traps.
 #[derive(Clone, Copy, Debug)]
 pub enum Turn {

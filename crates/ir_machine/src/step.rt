@@ -7,6 +7,7 @@ ghost use Rattle.ir_model.specs.Values as values;
 ghost use Rattle.ir_machine.specs.Steps as spec;
 ghost use Rattle.ir_machine.specs.Steps.{code_step, deed, input_value, read_as, state_of, valued, wrote, After, Comes, Does, DoesAlone};
 
+use crate::answers::turn_of;
 use crate::calls::{call, note};
 use crate::deeds::{
     add, allocate, compare_numbers, compute, convert, freeze, load, point, select, store,
@@ -54,8 +55,8 @@ fn perform_any(functions: &[FunctionCode], machine: &mut Machine, op: &Op) -> Re
             no,
         } => Ok(select(machine, *into, *ty, cond, yes, no)),
         Op::Alloca { into, size } => allocate(machine, *into, *size),
-        Op::Load { into, ty, address } => Ok(load(machine, *into, *ty, address)),
-        Op::Store { ty, value, address } => Ok(store(machine, *ty, value, address)),
+        Op::Load { into, ty, address } => load_apart(machine, *into, *ty, address),
+        Op::Store { ty, value, address } => store_apart(machine, *ty, value, address),
         Op::Gep {
             into,
             address,
@@ -66,7 +67,7 @@ fn perform_any(functions: &[FunctionCode], machine: &mut Machine, op: &Op) -> Re
             ret,
             callee,
             args,
-        } => call(functions, machine, *into, *ret, callee, args.as_slice()),
+        } => call_apart(functions, machine, into, *ret, callee, args.as_slice()),
         Op::Add {
             unit,
             counter,
@@ -82,8 +83,8 @@ fn perform_any(functions: &[FunctionCode], machine: &mut Machine, op: &Op) -> Re
 fn load_apart(machine: &mut Machine, into: usize, ty: Ty, address: &Input) -> Result<Turn, NoMemory>
     ensures { IfOk result (λ turn. DoesAlone machine.old (read_as into machine.old.memory ty (loaded machine.old.memory (values.base_of (input_value machine.old.top.registers address.now)) (values.offset_of (input_value machine.old.top.registers address.now)) (sizes.bytes_of ty) (is_pointer_type ty))) turn machine.new) }
 {
-    let turn = load(machine, into, ty, address);
-    Ok(turn)
+    let answer = load(machine, into, ty, address);
+    turn_of(machine, answer)
 }
 
 /// A store, out of the loop over the steps.
@@ -96,8 +97,8 @@ fn store_apart(
 ) -> Result<Turn, NoMemory>
     ensures { IfOk result (λ turn. DoesAlone machine.old (wrote (stored machine.old.memory (values.base_of (input_value machine.old.top.registers address.now)) (values.offset_of (input_value machine.old.top.registers address.now)) (sizes.bytes_of ty) (values.at_type ty (input_value machine.old.top.registers input.now)))) turn machine.new) }
 {
-    let turn = store(machine, ty, input, address);
-    Ok(turn)
+    let answer = store(machine, ty, input, address);
+    turn_of(machine, answer)
 }
 
 /// A call, out of the loop over the steps.
@@ -105,15 +106,15 @@ fn store_apart(
 fn call_apart(
     functions: &[FunctionCode],
     machine: &mut Machine,
-    into: Option<Target>,
+    into: &Option<Target>,
     ret: Ret,
     callee: &Input,
     args: &[(Ty, Input)],
 ) -> Result<Turn, NoMemory>
-    ensures { IfOk result (λ turn. Does functions.now machine.old (spec.Calls into ret (values.as_number (input_value machine.old.top.registers callee.now)) (map (valued machine.old.top.registers) args.now)) turn machine.new) }
+    ensures { IfOk result (λ turn. Does functions.now machine.old (spec.Calls into.now ret (values.as_number (input_value machine.old.top.registers callee.now)) (map (valued machine.old.top.registers) args.now)) turn machine.new) }
 {
-    let turn = call(functions, machine, into, ret, callee, args)?;
-    Ok(turn)
+    let answer = call(functions, machine, into, ret, callee, args);
+    turn_of(machine, answer)
 }
 
 /// Any operation, out of the loop over the steps.
@@ -157,7 +158,7 @@ fn perform(functions: &[FunctionCode], machine: &mut Machine, op: &Op) -> Result
             ret,
             callee,
             args,
-        } => call_apart(functions, machine, *into, *ret, callee, args.as_slice()),
+        } => call_apart(functions, machine, into, *ret, callee, args.as_slice()),
         _ => perform_apart(functions, machine, op),
     }
 }

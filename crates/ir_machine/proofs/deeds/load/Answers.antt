@@ -4,6 +4,7 @@ use Rattle.ir_tree.specs.Types.{is_pointer_type}
 use Rattle.ir_memory.specs.Memory.{loaded}
 use Rattle.ir_model.specs.Sizes.{bytes_of}
 use Rattle.ir_model.specs.Values.{base_of, offset_of}
+use Rattle.ir_machine.specs.declared.state.Turn.TheVariants as turn
 use Rattle.ir_machine.specs.Steps.{Gives, input_value, read_as}
 use Rattle.ir_machine.proofs.Giving.{does}
 use Rattle.ir_machine.proofs.deeds.load.Goals as goal
@@ -16,4 +17,4 @@ returns-in-Ok c =
     let found : Ok c.in-Ok.value ≡ there =
     c.in-Ok.ensures.value
     ∙ (λ i. loaded memory ((c.base_of.ensures ∙ ap base_of c.value_in-address.ensures) i) ((c.offset_of.ensures ∙ ap offset_of c.value_in-address.ensures) i) (c.bytes_of.ensures.value i) (c.is_pointer.ensures i)) in
-    does c.args.machine.now c.give.new.machine c.args.into c.give.result (read_as c.args.into memory c.args.ty there) c.at_type.result (ap (λ v. Gives (Some c.args.into) v memory []) c.at_type.ensures.value ∙ ap (read_as c.args.into memory c.args.ty) found) c.give.ensures
+    does c.args.machine.now c.put.new.machine c.args.into turn.Goes (read_as c.args.into memory c.args.ty there) c.at_type.result (ap (λ v. Gives (Some c.args.into) v memory []) c.at_type.ensures.value ∙ ap (read_as c.args.into memory c.args.ty) found) c.put.ensures
