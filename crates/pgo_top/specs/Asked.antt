@@ -4,6 +4,8 @@ use Rattle.pgo_words.specs.Plan.{Planned, RunWords, WalkWords, Annotates, Chains
 use Rattle.pgo_words.specs.Table.{planned}
 use Rattle.pgo_shell.specs.Shell.{Task, error_line}
 use Rattle.command_check.specs.Check.{CheckFiles, check_task}
+use Rattle.command_gen.specs.Gen.{GenFiles, gen_task}
+use Rattle.command_lower.specs.Lower.{LowerFiles, lower_task}
 use Rattle.command_merge.specs.Merge.{MergeFiles, merge_task}
 use Rattle.command_print.specs.Print.{PrintFiles, print_task}
 use Rattle.command_run.specs.OnCalls.{CallFiles}
@@ -14,6 +16,8 @@ use Rattle.command_show.specs.Show.{ShowFiles, show_task}
 pub data Asked : Type 0 where
   AsksCheck : CheckFiles → Asked
   AsksPrint : PrintFiles → Asked
+  AsksGen : GenFiles → Asked
+  AsksLower : LowerFiles → Asked
   AsksRun : CallFiles → Asked
   AsksChain : CallFiles → Asked
   AsksMerge : MergeFiles → Asked
@@ -41,8 +45,8 @@ merge_asked out inputs workers = if is_few (length inputs) && is_few workers the
 abbrev pub asked_by : Planned → Option Asked
 asked_by (Checks file) = Some (AsksCheck (record { «module» = file }))
 asked_by (Prints file) = Some (AsksPrint (record { «module» = file }))
-asked_by (Generates file out first) = None
-asked_by (Lowers file out) = None
+asked_by (Generates file out first) = Some (AsksGen (record { «module» = file; out = out; entry_first = first }))
+asked_by (Lowers file out) = Some (AsksLower (record { «module» = file; out = out }))
 asked_by (Runs w) = run_asked w
 asked_by (Merges out inputs workers) = merge_asked out inputs workers
 asked_by (Shows file) = Some (AsksShow (record { input = file }))
@@ -62,6 +66,8 @@ asked words = option_and_then asked_by (planned words)
 abbrev pub task_of : Asked → Task
 task_of (AsksCheck f) = check_task f
 task_of (AsksPrint f) = print_task f
+task_of (AsksGen f) = gen_task f
+task_of (AsksLower f) = lower_task f
 task_of (AsksRun f) = run_task f
 task_of (AsksChain f) = chain_task f
 task_of (AsksMerge f) = merge_task f

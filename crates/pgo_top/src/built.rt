@@ -8,6 +8,8 @@ ghost use Rattle.pgo_words.specs.Plan.{plan_value};
 
 use command_chain::Chain;
 use command_check::Check;
+use command_gen::Gen;
+use command_lower::Lower;
 use command_merge::Merge;
 use command_print::Print;
 use command_run::Run;
@@ -23,6 +25,8 @@ use std::thread::Threads;
 pub enum Built {
     Check(Check),
     Print(Print),
+    Gen(Gen),
+    Lower(Lower),
     Run(Run),
     Chain(Chain),
     Merge(Merge),
@@ -39,6 +43,8 @@ impl Command for Built {
         match self {
             Built::Check(check) => check.read_name(index),
             Built::Print(print) => print.read_name(index),
+            Built::Gen(gen_command) => gen_command.read_name(index),
+            Built::Lower(lower) => lower.read_name(index),
             Built::Run(run) => run.read_name(index),
             Built::Chain(chain) => chain.read_name(index),
             Built::Merge(merge) => merge.read_name(index),
@@ -50,6 +56,8 @@ impl Command for Built {
         match self {
             Built::Check(check) => check.write_name(index),
             Built::Print(print) => print.write_name(index),
+            Built::Gen(gen_command) => gen_command.write_name(index),
+            Built::Lower(lower) => lower.write_name(index),
             Built::Run(run) => run.write_name(index),
             Built::Chain(chain) => chain.write_name(index),
             Built::Merge(merge) => merge.write_name(index),
@@ -67,6 +75,8 @@ impl Command for Built {
         match self {
             Built::Check(check) => check.product(rt, alloc, texts, gate),
             Built::Print(print) => print.product(rt, alloc, texts, gate),
+            Built::Gen(gen_command) => gen_command.product(rt, alloc, texts, gate),
+            Built::Lower(lower) => lower.product(rt, alloc, texts, gate),
             Built::Run(run) => run.product(rt, alloc, texts, gate),
             Built::Chain(chain) => chain.product(rt, alloc, texts, gate),
             Built::Merge(merge) => merge.product(rt, alloc, texts, gate),
@@ -85,6 +95,16 @@ pub fn command_for(plan: Plan) -> Option<Built>
     match plan {
         Plan::Check { module } => Some(Built::Check(Check { module })),
         Plan::Print { module } => Some(Built::Print(Print { module })),
+        Plan::Gen {
+            module,
+            out,
+            entry_first,
+        } => Some(Built::Gen(Gen {
+            module,
+            out,
+            entry_first,
+        })),
+        Plan::Lower { module, out } => Some(Built::Lower(Lower { module, out })),
         Plan::Run {
             module,
             calls,
@@ -108,9 +128,7 @@ pub fn command_for(plan: Plan) -> Option<Built>
             workers,
         } => merge_for(out, inputs, workers),
         Plan::Show { input } => Some(Built::Show(Show { input })),
-        Plan::Gen { .. }
-        | Plan::Lower { .. }
-        | Plan::Edges { .. }
+        Plan::Edges { .. }
         | Plan::Annotate { .. }
         | Plan::Promote { .. }
         | Plan::Chain { .. }

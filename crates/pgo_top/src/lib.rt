@@ -8,6 +8,8 @@ pub use pgo_shell::Status;
 pub use top::{no_memory, pgo, usage};
 
 #[cfg(test)]
+mod instrument_tests;
+#[cfg(test)]
 mod profile_tests;
 #[cfg(test)]
 mod tests;

@@ -138,7 +138,7 @@ fn words_without_a_plan_name_the_usage(rt: HostRuntime) -> Result<(), Fail> {
         &["run", "m.ll", ""],
         &["run", "-m", "c.txt"],
         // The work of these is not built.
-        &["gen", "m.ll", "o.ll"],
+        &["edges", "m.ll", "p"],
         &["run", "m.ll", "c.txt", "--workers", "2"],
         &["run", "m.ll", "c.txt", "--profile", "p"],
         &["chain", "m.ll", "c.txt", "p", "o"],

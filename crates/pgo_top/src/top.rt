@@ -2,6 +2,8 @@
 ghost use Rattle.std.specs.Prelude.{◌≡◌, ◌⊎◌, IfOk, IsErrOf, Some, None, codes};
 ghost use Rattle.command_chain.specs.Chain.{ChainStands};
 ghost use Rattle.command_check.specs.Check.{CheckStands};
+ghost use Rattle.command_gen.specs.Gen.{GenStands};
+ghost use Rattle.command_lower.specs.Lower.{LowerStands};
 ghost use Rattle.command_merge.specs.Merge.{MergeStands};
 ghost use Rattle.command_print.specs.Print.{PrintStands};
 ghost use Rattle.command_run.specs.Run.{RunStands};
@@ -10,11 +12,13 @@ ghost use Rattle.pgo_shell.specs.Ended.{Ended};
 ghost use Rattle.pgo_shell.specs.Promises.{Promises};
 ghost use Rattle.pgo_shell.specs.Shell.{Front, error_line};
 ghost use Rattle.pgo_shell.specs.World.{world};
-ghost use Rattle.pgo_top.specs.Asked.{AsksChain, AsksCheck, AsksMerge, AsksPrint, AsksRun, AsksShow, asked, task_of, usage_line};
+ghost use Rattle.pgo_top.specs.Asked.{AsksChain, AsksCheck, AsksGen, AsksLower, AsksMerge, AsksPrint, AsksRun, AsksShow, asked, task_of, usage_line};
 ghost use Rattle.pgo_top.specs.Built.{asked_value};
 ghost use Rattle.pgo_words.specs.Plan.{words_of};
 
 use crate::built::{Built, command_for};
+use command_gen::plain_modules_are_made;
+use command_lower::modules_are_lowered;
 use pgo_base::{Gate, Sink, Store};
 use pgo_shell::{Status, perform, say};
 use pgo_words::{WordsError, plan_of};
@@ -55,6 +59,14 @@ pub fn pgo<R: Threads + Sync, S: Store, O: Sink, E: Sink, G: Gate + Sync>(
     ensures print { (f : _) → asked (words_of words.now) ≡ Some (AsksPrint f) → result ≡ Status.Done →
         S.tells store.old →
         PrintStands f (world S.Store O.Sink store.old out.old) (world S.Store O.Sink store.new out.new) }
+    // After a `gen` that is `Done`: its file holds the module that counts the program, which is accepted and behaves as the program.
+    ensures counts { (f : _) → asked (words_of words.now) ≡ Some (AsksGen f) → result ≡ Status.Done →
+        S.tells store.old →
+        GenStands f (world S.Store O.Sink store.old out.old) (world S.Store O.Sink store.new out.new) }
+    // After a `lower` that is `Done`: its file holds the lowered form of the program, which is accepted and runs as the program.
+    ensures lower { (f : _) → asked (words_of words.now) ≡ Some (AsksLower f) → result ≡ Status.Done →
+        S.tells store.old →
+        LowerStands f (world S.Store O.Sink store.old out.old) (world S.Store O.Sink store.new out.new) }
     // After a `run` that is `Done`: the outcomes of its calls on the program, all of them returned.
     ensures run { (f : _) → asked (words_of words.now) ≡ Some (AsksRun f) → result ≡ Status.Done →
         S.tells store.old →
@@ -73,6 +85,8 @@ pub fn pgo<R: Threads + Sync, S: Store, O: Sink, E: Sink, G: Gate + Sync>(
         S.tells store.old →
         ShowStands f (world S.Store O.Sink store.old out.old) (world S.Store O.Sink store.new out.new) }
 {
+    plain_modules_are_made();
+    modules_are_lowered();
     perform_words(rt, alloc, words, store, out, err, gate)
 }
 

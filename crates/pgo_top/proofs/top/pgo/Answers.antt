@@ -1,6 +1,8 @@
 -- A command that is `Done`, in its own words.
 use Rattle.command_chain.specs.Laws.{chain_stands}
 use Rattle.command_check.specs.Laws.{check_stands}
+use Rattle.command_gen.specs.Laws.{gen_stands}
+use Rattle.command_lower.specs.Laws.{lower_stands}
 use Rattle.command_merge.specs.Laws.{merge_stands}
 use Rattle.command_print.specs.Laws.{print_stands}
 use Rattle.command_run.specs.Laws.{run_stands}
@@ -13,6 +15,14 @@ returns-clause-check g c f is done told = check_stands f _ _ told ((c.perform_wo
 
 pub returns-clause-print : goal.returns-clause-print
 returns-clause-print g c f is done told = print_stands f _ _ told ((c.perform_words.ensures.promises (asked.AsksPrint f) is).done done told)
+
+pub returns-clause-counts : goal.returns-clause-counts
+returns-clause-counts g c f is done told =
+    gen_stands c.plain_modules_are_made.ensures f _ _ told ((c.perform_words.ensures.promises (asked.AsksGen f) is).done done told)
+
+pub returns-clause-lower : goal.returns-clause-lower
+returns-clause-lower g c f is done told =
+    lower_stands c.modules_are_lowered.ensures f _ _ told ((c.perform_words.ensures.promises (asked.AsksLower f) is).done done told)
 
 pub returns-clause-run : goal.returns-clause-run
 returns-clause-run g c f is done told = run_stands f _ _ told ((c.perform_words.ensures.promises (asked.AsksRun f) is).done done told)

@@ -1,0 +1,3 @@
+pub mod Gen
+pub mod GenFiles
+pub mod Laws

@@ -1,0 +1,4 @@
+pub mod LowerLines
+pub mod Lower
+pub mod LowerFiles
+pub mod Laws
