@@ -15,8 +15,7 @@ use accepted_counts::plain_modules_count;
 use count_insert::insert_into_module;
 use counted_accepted::gen_is_accepted;
 use gen_code::plan_module;
-use ir_check::{CheckError, Checked, Kind, check};
-use ir_rules::well_formed_breaks_none;
+use ir_check::{Checked, Kind};
 use ir_tree::Module;
 use pgo_base::NoMemory;
 use std::alloc::Global;
@@ -53,20 +52,5 @@ fn counted(alloc: Global, original: &Module, entry_first: bool) -> Result<Checke
     gen_is_accepted();
     let plan = plan_module(alloc, original, entry_first)?;
     let made = insert_into_module(alloc, plan, original.copy(alloc)?)?;
-    checked(alloc, made)
-}
-
-// An accepted module, checked: there is no reason against it.
-fn checked(alloc: Global, module: Module) -> Result<Checked, NoMemory>
-    requires { IsAccepted «module» }
-    ensures { IfOk result (λ made. made ≡ «module») }
-{
-    well_formed_breaks_none();
-    match check(alloc, module) {
-        Ok(checked) => Ok(checked),
-        Err(refused) => match refused.why {
-            CheckError::NoMemory => Err(NoMemory),
-            CheckError::Limit { .. } | CheckError::Broken { .. } => unreachable!(),
-        },
-    }
+    Checked::of_accepted(alloc, made)
 }

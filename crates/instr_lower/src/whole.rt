@@ -19,8 +19,8 @@ ghost use Rattle.lowering.specs.Units.{names_used, sites_told};
 
 use crate::error::LowerError;
 use crate::functions::lowered_functions;
-use ir_check::{CheckError, Checked, Kind, check};
-use ir_rules::well_formed_breaks_none;
+use ir_check::{Checked, Kind};
+use ir_limits::passed;
 use ir_tree::{Global1, Module, Seq};
 use lower_units::{Refusal, Units};
 use lowered_accepted::{lowered_is_accepted, lowered_is_formed};
@@ -137,13 +137,9 @@ fn checked(alloc: Global, module: Module) -> Result<Checked, LowerError>
     ensures accepted { IfOk result (λ made. IsAccepted «module») }
     ensures refused { IfErr result (IsPast «module») }
 {
-    well_formed_breaks_none();
-    match check(alloc, module) {
-        Ok(checked) => Ok(checked),
-        Err(refused) => match refused.why {
-            CheckError::Limit { which, found } => Err(LowerError::Limit { which, found }),
-            CheckError::NoMemory => Err(LowerError::NoMemory),
-            CheckError::Broken { .. } => unreachable!(),
-        },
+    let limit = passed(&module);
+    match limit {
+        Some((which, found)) => Err(LowerError::Limit { which, found }),
+        None => Ok(Checked::of_accepted(alloc, module)?),
     }
 }

@@ -1,14 +1,17 @@
 // A module that was accepted.
-ghost use Rattle.std.specs.Prelude.{◌≡◌};
+ghost use Rattle.std.specs.Prelude.{◌≡◌, IfOk};
 ghost use Rattle.ir_rules.specs.Accepted.{IsAccepted};
 ghost use Rattle.ir_rules.specs.Kinds as kinds;
 ghost use Rattle.ir_rules.specs.Scopes as scopes;
 ghost use Rattle.ir_tree.specs.Functions.{function_place};
 ghost use Rattle.ir_tree.specs.Names.{Indexes};
 
+use check_names::first_of_names;
 use ir_limits::kind_of;
 use ir_rules::Kind;
 use ir_tree::{Index, Module};
+use pgo_base::NoMemory;
+use std::alloc::Global;
 use std::marker::Model;
 
 /// An accepted module. Contracts see it as the module.
@@ -42,6 +45,16 @@ impl Checked {
         ensures { result ≡ «module» }
     {
         Checked { module, symbols }
+    }
+
+    /// A module that its maker has proved to be accepted, as a checked one: a transformation need not have its result checked again.
+    /// Only memory can be wanting, for the index of the module's names.
+    pub fn of_accepted(alloc: Global, module: Module) -> Result<Checked, NoMemory>
+        requires { IsAccepted «module» }
+        ensures { IfOk result (λ checked. checked ≡ «module») }
+    {
+        let (symbols, _) = first_of_names(alloc, &module)?;
+        Ok(Checked::of(module, symbols))
     }
 
     /// The kind of the module. Takes no memory.

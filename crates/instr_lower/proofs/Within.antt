@@ -1,0 +1,7 @@
+-- Of no first item there is none.
+use Rattle.std.proofs.Common.{◌≡◌, List, [], ◌∷◌, None, refl}
+use Rattle.spec_lists.specs.Each.{first_of}
+
+pub nothing : {Y : Type 0} (ys : List Y) → first_of ys ≡ None → ys ≡ []
+nothing [] none = refl
+nothing (y ∷ ys) none = cc
