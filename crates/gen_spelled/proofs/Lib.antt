@@ -1,0 +1,6 @@
+mod Lists
+mod Calls
+mod Ways
+mod Blocks
+mod Notes
+mod Modules
