@@ -1,0 +1,5 @@
+mod Lists
+mod HashSmall
+mod Asks
+mod Notes
+mod Modules
