@@ -1,0 +1,3 @@
+pub mod SiteLines
+pub mod RunProfile
+pub mod KeyLaws
