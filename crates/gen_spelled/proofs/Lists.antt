@@ -1,5 +1,5 @@
 -- Lists whose items all keep a condition, and lists that are made item by item.
-use Rattle.std.proofs.Common.{◌≡◌, ℕ, zero, suc, ◌+◌, inl, inr, Bool, true, false, cond, List, [], ◌∷◌, ◌++◌, map, filter, take, drop, Option, Some, None, slice_get, slice_index_or, refl, sym, ap, subst, ◌∙◌, arith, zero-add}
+use Rattle.std.proofs.Common.{◌≡◌, ℕ, zero, suc, ◌+◌, ◌<◌, length, inl, inr, Bool, true, false, cond, List, [], ◌∷◌, ◌++◌, map, filter, take, drop, Option, Some, None, slice_get, slice_index_or, refl, sym, ap, subst, ◌∙◌, arith, zero-add}
 use Rattle.std.specs.List.{cons_option, filter_map, fold}
 use Rattle.std.proofs.lemmas.Option.{none-some, same_Some}
 use Rattle.ir_rules.specs.Lists.{Among}
@@ -137,3 +137,9 @@ module _ {A B : Type 0} (step : B → A → B) where
   pub fold_mapped : (g : A → A) → ((b : B) (x : A) → step b (g x) ≡ step b x) → (b : B) (xs : List A) → fold step b (map g xs) ≡ fold step b xs
   fold_mapped g same b [] = refl
   fold_mapped g same b (x ∷ xs) = ap (λ (c : B). fold step c (map g xs)) (same b x) ∙ fold_mapped g same (step b x) xs
+
+-- the place of an item
+pub place : {X : Type 0} (xs : List X) (x : X) → Among x xs → (i : ℕ) × (slice_get xs i ≡ Some x) × (i < length xs)
+place [] x at = absurd at
+place (y ∷ ys) x (inl e) = (0, ap Some (sym e), omega arith)
+place (y ∷ ys) x (inr at) = (let r = place ys x at in let here = r.2 in (suc r.0, r.1, omega (arith, here)))

@@ -2,5 +2,7 @@
 #![tactic(auto)]
 
 mod laws;
+mod names;
 
 pub use laws::gen_is_spelled;
+pub use names::names_are_short;
