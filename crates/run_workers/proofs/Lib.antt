@@ -1,0 +1,5 @@
+pub mod Grows
+pub mod Halves
+pub mod Places
+pub mod Totals
+pub mod Crosses
