@@ -1,4 +1,5 @@
 pub mod Outcomes
+pub mod Told
 pub mod OnCalls
 pub mod Run
 pub mod RunFiles

@@ -13,8 +13,6 @@ use Rattle.ir_model.specs.declared.result.End.{End}
 use Rattle.ir_model.specs.declared.result.End.TheVariants.{Returned, Trapped, StepsSpent}
 use Rattle.call_list.specs.Outcome.{outcome_of}
 use Rattle.command_run.specs.Outcomes.{HasReturned, first_unreturned, or_else, outcomes, result_in, unreturned}
-use Rattle.command_run.specs.Run.{run_made}
-use Rattle.pgo_shell.specs.Judgement.{Made}
 
 abbrev pub outcome_in : Module → ℕ → ℕ → Call → List ℕ
 outcome_in m steps k call = outcome_of (function_at m call.function) k (result_in m steps call)
@@ -27,7 +25,7 @@ outcomes_turn m steps i left call rest out text done first is put =
     ∙ ap (λ calls. out ++ outcomes m steps i calls) (sym first)
     ∙ put
 
-or_else_assoc : (a b c : Option (List ℕ)) → or_else (or_else a b) c ≡ or_else a (or_else b c)
+pub or_else_assoc : (a b c : Option (List ℕ)) → or_else (or_else a b) c ≡ or_else a (or_else b c)
 or_else_assoc None b c = refl
 or_else_assoc (Some x) b c = refl
 
@@ -40,7 +38,7 @@ halts_turn m steps i left call rest halted next all first is so_far =
     ∙ ap (λ calls. or_else halted (first_unreturned m steps i calls)) (sym first)
     ∙ so_far
 
-or_else_none : (a : Option (List ℕ)) → or_else a None ≡ a
+pub or_else_none : (a : Option (List ℕ)) → or_else a None ≡ a
 or_else_none None = refl
 or_else_none (Some x) = refl
 
@@ -72,18 +70,6 @@ result_is m code steps call ended same is = is ∙ ap (λ n. result_of (run_of n
 
 pub next_call : (calls : List Call) (i : ℕ) (call d : Call) → i < length calls → call ≡ get_or calls i d → drop i calls ≡ call ∷ drop (i + 1) calls
 next_call calls i call d within is = drop-cons calls i d within ∙ ap (λ c. c ∷ drop (suc i) calls) (sym is) ∙ ap (λ n. call ∷ drop n calls) (sym (add-one i))
-
-pub run_ends : (m : Module) (steps : ℕ) (calls : List Call) (i : ℕ) (halted : Option (List ℕ)) (out : List ℕ) (files : List (List ℕ)) → length calls ≤ i
-    → out ++ outcomes m steps i (drop i calls) ≡ outcomes m steps 0 calls → or_else halted (first_unreturned m steps i (drop i calls)) ≡ first_unreturned m steps 0 calls → files ≡ []
-    → ◌≡◌ {A = Made} (record { halted = halted; output = out; written = files }) (run_made m steps calls)
-run_ends m steps calls i halted out files past put so_far none =
-    let left : drop i calls ≡ [] = drop_of_length-le calls past in
-    let halt : halted ≡ first_unreturned m steps 0 calls = halts_end m steps i (drop i calls) halted (first_unreturned m steps 0 calls) left so_far in
-    let output : out ≡ outcomes m steps 0 calls = outcomes_end m steps i (drop i calls) out (outcomes m steps 0 calls) left put in
-    made_same halted (first_unreturned m steps 0 calls) out (outcomes m steps 0 calls) files [] halt output none
-  where
-    made_same : (a b : Option (List ℕ)) (x y : List ℕ) (f g : List (List ℕ)) → a ≡ b → x ≡ y → f ≡ g → ◌≡◌ {A = Made} (record { halted = a; output = x; written = f }) (record { halted = b; output = y; written = g })
-    made_same a b x y f g p q r = cc
 
 ends_none : (m : Module) (steps k : ℕ) (call : Call) → HasReturned m steps call → unreturned k (result_in m steps call).end ≡ None
 ends_none m steps k call returned = rw returned.1 refl

@@ -1,6 +1,9 @@
-//! The command `run`: the calls of a text on a module, and the text of their outcomes.
+//! The command `run`: the calls of a text on a module, the text of their outcomes, and the profile of the run.
 #![tactic(auto)]
 
+mod outcomes;
 mod run;
+mod running;
 
-pub use run::{Run, first_unreturned};
+pub use outcomes::first_unreturned;
+pub use run::Run;

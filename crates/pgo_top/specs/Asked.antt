@@ -1,5 +1,5 @@
 -- The command that words ask for, of those that are built, and its task.
-use Rattle.std.specs.Prelude.{ℕ, Bool, true, false, not, ◌&&◌, ◌==◌, nat_le, if◌then◌else◌, length, List, Option, Some, None, option_and_then, is_none, codes}
+use Rattle.std.specs.Prelude.{ℕ, Bool, ◌&&◌, nat_le, if◌then◌else◌, length, List, Option, Some, None, option_and_then, codes}
 use Rattle.pgo_words.specs.Plan.{Planned, RunWords, WalkWords, Annotates, Chains, Checks, CountsWalks, Generates, GrowsTree, LaysOut, ListsEdges, Lowers, MakesLarge, Merges, Prints, Promotes, Runs, Shows}
 use Rattle.pgo_words.specs.Table.{planned}
 use Rattle.pgo_shell.specs.Shell.{Task, error_line}
@@ -9,7 +9,7 @@ use Rattle.command_lower.specs.Lower.{LowerFiles, lower_task}
 use Rattle.command_merge.specs.Merge.{MergeFiles, merge_task}
 use Rattle.command_print.specs.Print.{PrintFiles, print_task}
 use Rattle.command_run.specs.OnCalls.{CallFiles}
-use Rattle.command_run.specs.Run.{run_task}
+use Rattle.command_run.specs.Run.{RunFiles, run_task}
 use Rattle.command_chain.specs.Chain.{chain_task}
 use Rattle.command_show.specs.Show.{ShowFiles, show_task}
 
@@ -18,24 +18,28 @@ pub data Asked : Type 0 where
   AsksPrint : PrintFiles → Asked
   AsksGen : GenFiles → Asked
   AsksLower : LowerFiles → Asked
-  AsksRun : CallFiles → Asked
+  AsksRun : RunFiles → Asked
   AsksChain : CallFiles → Asked
   AsksMerge : MergeFiles → Asked
   AsksShow : ShowFiles → Asked
 
--- a `run` with no option but the steps: the others' work is not built
-abbrev pub has_steps_alone : RunWords → Bool
-has_steps_alone w = w.workers == 1 && is_none w.profile && not w.entry_first && w.places == 8
-
-abbrev pub run_asked : RunWords → Option Asked
-run_asked w = if has_steps_alone w then Some (AsksRun (record { «module» = w.«module»; calls = w.calls; steps = w.steps })) else None
-
-abbrev pub chain_asked : WalkWords → Option Asked
-chain_asked w = if nat_le w.steps 1_099_511_627_776 then Some (AsksChain (record { «module» = w.«module»; calls = w.calls; steps = w.steps })) else None
-
 -- from 1 to 64
 abbrev pub is_few : ℕ → Bool
 is_few n = nat_le 1 n && nat_le n 64
+
+-- from 1 to 24
+abbrev pub is_place_count : ℕ → Bool
+is_place_count n = nat_le 1 n && nat_le n 24
+
+-- a `run` within the limits of words: so many steps, and 1 to 64 workers, who change nothing
+abbrev pub run_asked : RunWords → Option Asked
+run_asked w =
+    if nat_le w.steps 1_099_511_627_776 && is_few w.workers && is_place_count w.places
+    then Some (AsksRun (record { «module» = w.«module»; calls = w.calls; steps = w.steps; places = w.places; profile = w.profile; entry_first = w.entry_first }))
+    else None
+
+abbrev pub chain_asked : WalkWords → Option Asked
+chain_asked w = if nat_le w.steps 1_099_511_627_776 then Some (AsksChain (record { «module» = w.«module»; calls = w.calls; steps = w.steps })) else None
 
 -- a `merge` of 1 to 64 inputs by 1 to 64 workers, who change nothing
 abbrev pub merge_asked : List ℕ → List (List ℕ) → ℕ → Option Asked

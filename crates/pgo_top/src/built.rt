@@ -1,8 +1,8 @@
 // The commands that are built.
-ghost use Rattle.std.specs.Prelude.{◌≡◌, if◌then◌else◌, None, Some, map};
+ghost use Rattle.std.specs.Prelude.{◌≡◌, map};
 ghost use Rattle.std.specs.Option.{option_map};
 ghost use Rattle.std.specs.String.{string_bytes};
-ghost use Rattle.pgo_top.specs.Asked.{AsksRun, asked_by, chain_asked, is_few, merge_asked};
+ghost use Rattle.pgo_top.specs.Asked.{asked_by, chain_asked, is_few, is_place_count, merge_asked, run_asked};
 ghost use Rattle.pgo_top.specs.Built.{asked_value};
 ghost use Rattle.pgo_words.specs.Plan.{plan_value};
 
@@ -88,7 +88,7 @@ impl Command for Built {
 /// The most steps that a call is given.
 const MOST_STEPS: u64 = 1_099_511_627_776;
 
-/// The command of a plan; None where its work, or that of one of its options, is not built.
+/// The command of a plan; None where its work is not built.
 pub fn command_for(plan: Plan) -> Option<Built>
     ensures { option_map asked_value result ≡ asked_by (plan_value plan) }
 {
@@ -113,10 +113,7 @@ pub fn command_for(plan: Plan) -> Option<Built>
             profile,
             entry_first,
             places,
-        } => {
-            let plain = workers == 1 && profile.is_none() && !entry_first && places == 8;
-            run_for(plain, module, calls, steps)
-        }
+        } => run_for(module, calls, steps, workers, profile, entry_first, places),
         Plan::Walks {
             module,
             calls,
@@ -138,15 +135,27 @@ pub fn command_for(plan: Plan) -> Option<Built>
     }
 }
 
-// A `run` where it has no option but the steps.
-fn run_for(has_steps_alone: bool, module: String, calls: String, steps: u64) -> Option<Built>
-    ensures { option_map asked_value result ≡ (if has_steps_alone then Some (AsksRun (record { «module» = string_bytes «module»; calls = string_bytes calls; steps = steps })) else None) }
+// A `run` of numbers of steps, workers and places that are allowed.
+fn run_for(
+    module: String,
+    calls: String,
+    steps: u64,
+    workers: u32,
+    profile: Option<String>,
+    entry_first: bool,
+    places: u32,
+) -> Option<Built>
+    ensures { option_map asked_value result ≡ run_asked (record { «module» = string_bytes «module»; calls = string_bytes calls; steps = steps; workers = workers; profile = option_map string_bytes profile; entry_first = entry_first; places = places }) }
 {
-    if has_steps_alone {
+    if steps <= MOST_STEPS && is_few(workers as usize) && is_place_count(places) {
         Some(Built::Run(Run {
             module,
             calls,
             steps,
+            workers,
+            profile,
+            entry_first,
+            places,
         }))
     } else {
         None
@@ -168,7 +177,14 @@ fn chain_for(module: String, calls: String, steps: u64) -> Option<Built>
     }
 }
 
-// Whether this is a number of inputs or workers of a merge.
+// Whether this is a number of places of a site.
+fn is_place_count(number: u32) -> bool
+    ensures { result ≡ is_place_count number }
+{
+    1 <= number && number <= 24
+}
+
+// Whether this is a number of workers, or of inputs of a merge.
 fn is_few(number: usize) -> bool
     ensures { result ≡ is_few number }
 {

@@ -137,10 +137,10 @@ fn words_without_a_plan_name_the_usage(rt: HostRuntime) -> Result<(), Fail> {
         &["run", "m.ll", "c.txt", "x"],
         &["run", "m.ll", ""],
         &["run", "-m", "c.txt"],
+        &["run", "m.ll", "c.txt", "--workers", "65"],
+        &["run", "m.ll", "c.txt", "--places", "25"],
         // The work of these is not built.
         &["edges", "m.ll", "p"],
-        &["run", "m.ll", "c.txt", "--workers", "2"],
-        &["run", "m.ll", "c.txt", "--profile", "p"],
         &["chain", "m.ll", "c.txt", "p", "o"],
         &["stream", "m.ll", "c.txt"],
     ];

@@ -67,7 +67,8 @@ pub fn pgo<R: Threads + Sync, S: Store, O: Sink, E: Sink, G: Gate + Sync>(
     ensures lower { (f : _) → asked (words_of words.now) ≡ Some (AsksLower f) → result ≡ Status.Done →
         S.tells store.old →
         LowerStands f (world S.Store O.Sink store.old out.old) (world S.Store O.Sink store.new out.new) }
-    // After a `run` that is `Done`: the outcomes of its calls on the program, all of them returned.
+    // After a `run` that is `Done`: the outcomes of its calls on the program, all of them returned, what its sites kept, and its
+    // profile where one was asked for.
     ensures run { (f : _) → asked (words_of words.now) ≡ Some (AsksRun f) → result ≡ Status.Done →
         S.tells store.old →
         RunStands f (world S.Store O.Sink store.old out.old) (world S.Store O.Sink store.new out.new) }

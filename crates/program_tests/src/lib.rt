@@ -14,6 +14,8 @@ mod program;
 #[cfg(test)]
 mod refusals;
 #[cfg(test)]
+mod run_profiles;
+#[cfg(test)]
 mod runs;
 #[cfg(test)]
 mod texts;

@@ -13,7 +13,7 @@ fn store_of(alloc: Global, module: &[u8], calls: &[u8]) -> Result<MemoryStore, F
     Ok(MemoryStore::new(alloc, files, Vec::new(alloc))?)
 }
 
-fn status_line(status: Status) -> &'static [u8] {
+pub(crate) fn status_line(status: Status) -> &'static [u8] {
     match status {
         Status::Done => b"status 0\n".as_slice(),
         Status::Words => b"status 1\n".as_slice(),

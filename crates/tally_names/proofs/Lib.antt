@@ -1,0 +1,4 @@
+pub mod Listed
+pub mod Holders
+pub mod Data
+pub mod Tallies
